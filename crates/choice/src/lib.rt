@@ -1,0 +1,1 @@
+// The choice by a test and its laws, cited by every crate above. Definitions and laws only: see specs/.

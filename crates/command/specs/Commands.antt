@@ -1,0 +1,52 @@
+-- Commands of one byte with fixed operands: 1 START, 2 DELIVER row (16 bits, low byte first) and site, 3 TIMEOUT site, 4 CRASH site,
+-- 5 RECOVER site. Refusals: 6 none left or not 1 to 5; 7 operands cut short.
+use Prim.Native.Nat.{ℕ, _+_, _*_}
+use mathlib.Core.List.{List}
+use lib.Dec.{ltb, leb, eqb}
+use lib.ListN.{length, getD}
+use Rattle.choice.specs.Choice.{pick}
+use Rattle.command.specs.declared.Delivery.{Delivery}
+use Rattle.command.specs.declared.Target.{Target}
+use Rattle.command.specs.declared.Command.{Command}
+use Rattle.command.specs.declared.Command.the-variants as Command·
+use Rattle.command.specs.declared.Parsed.{Parsed}
+use Rattle.command.specs.declared.Refusal.{Refusal}
+use Rattle.command.specs.declared.Reading.{Reading}
+use Rattle.command.specs.declared.Reading.the-variants as Reading·
+
+-- a command, and the place after its operands
+unfoldable pub found : Command → ℕ → Reading
+found command next = Reading·.Found (record { command = command; next = next })
+
+-- a refusal with its place
+unfoldable pub refused : ℕ → ℕ → Reading
+refused number place = Reading·.Refused (record { number = number; place = place })
+
+unfoldable pub target : List ℕ → ℕ → Target
+target list at = record { site = getD list (at + 1) 0 }
+
+unfoldable pub delivery : List ℕ → ℕ → Delivery
+delivery list at = record { row = getD list (at + 1) 0 + 256 * getD list (at + 2) 0; site = getD list (at + 3) 0 }
+
+-- a command of one operand byte
+unfoldable pub readTarget : (Target → Command) → List ℕ → ℕ → Reading
+readTarget command list at = pick (leb (at + 2) (length list)) (found (command (target list at)) (at + 2)) (refused 7 at)
+
+-- DELIVER with its three operand bytes
+unfoldable pub readDelivery : List ℕ → ℕ → Reading
+readDelivery list at =
+    pick (leb (at + 4) (length list)) (found (Command·.Deliver (delivery list at)) (at + 4)) (refused 7 at)
+
+-- the command byte, by its value
+unfoldable pub readByte : ℕ → List ℕ → ℕ → Reading
+readByte byte list at =
+    pick (eqb byte 1) (found Command·.Start (at + 1))
+    (pick (eqb byte 2) (readDelivery list at)
+    (pick (eqb byte 3) (readTarget Command·.Timeout list at)
+    (pick (eqb byte 4) (readTarget Command·.Crash list at)
+    (pick (eqb byte 5) (readTarget Command·.Recover list at)
+    (refused 6 at)))))
+
+-- the command at a place of a list
+unfoldable pub readCommand : List ℕ → ℕ → Reading
+readCommand list at = pick (ltb at (length list)) (readByte (getD list at 0) list at) (refused 6 at)

@@ -1,0 +1,132 @@
+-- What is claimed of every list of one-command calls. The proofs are elsewhere; this file and the definitions below it are to be believed.
+use Prim.Native.Nat.{ℕ, _+_, _≤_, _<_, min}
+use mathlib.Core.Bool.{Bool, true, false}
+use mathlib.Core.List.{List, [], _∷_}
+use mathlib.Core.Path.{_≡_}
+use lib.Dec.{eqb}
+use lib.ListN.{length, getD}
+use Rattle.choice.specs.Choice.{pick, both}
+use Rattle.row.specs.declared.Row.{Row}
+use Rattle.row.specs.Bits.{hasBit}
+use Rattle.row.specs.Rows.{getRow, rowPlace}
+use Rattle.site.specs.declared.Site.{Site}
+use Rattle.site.specs.State.{stateOf, isActive}
+use Rattle.site.specs.Records.{Written, recordCode}
+use Rattle.site.specs.Rules.{hear, adopt}
+use Rattle.command.specs.declared.Reading.{Reading}
+use Rattle.command.specs.declared.Command.the-variants as Command·
+use Rattle.command.specs.declared.Delivery.{Delivery}
+use Rattle.command.specs.Commands.{readCommand, found}
+use Rattle.world.specs.declared.World.{World}
+use Rattle.world.specs.Sizes.{sizesNumber}
+use Rattle.world.specs.Worlds.{freshWorld, siteOf}
+use Rattle.world.specs.Valid.{validWorld}
+use Rattle.play.specs.Calls.{Call}
+use Rattle.play.specs.Commands.{oneCommand}
+use Rattle.play.specs.Run.{Ask, Ran, run, callOf}
+
+-- how many records of a history lead to the code: 1 prepare; 2 and 3 the groups commit and abort; 4 and 5 the outcomes commit and abort
+unfoldable pub written : ℕ → List Written → ℕ
+written code [] = 0
+written code (r ∷ H) = pick (eqb (recordCode (r .what)) code) 1 0 + written code H
+
+-- how many of them were written at site j
+unfoldable pub writtenAt : ℕ → ℕ → List Written → ℕ
+writtenAt j code [] = 0
+writtenAt j code (r ∷ H) = pick (both (eqb (r .site) j) (eqb (recordCode (r .what)) code)) 1 0 + writtenAt j code H
+
+-- how many different outcomes are in a history
+unfoldable pub outcomes : List Written → ℕ
+outcomes H = min 1 (written 4 H) + min 1 (written 5 H)
+
+-- DEMAND 3 of a history H of a competition of n sites: at most one outcome; with a commit exactly n prepare records, one at each site,
+-- and every site willing; no site with two group records or two outcome records
+pub record Safe (n willing : ℕ) (H : List Written) : Type 0 where
+  pub one-outcome : outcomes H ≤ 1
+  pub all-prepared : 1 ≤ written 4 H → written 1 H ≡ n
+  pub prepared-once : 1 ≤ written 4 H → (j : ℕ) → j < n → writtenAt j 1 H ≡ 1
+  pub all-willing : 1 ≤ written 4 H → (j : ℕ) → j < n → hasBit willing j ≡ true
+  pub one-group : (j : ℕ) → writtenAt j 2 H + writtenAt j 3 H ≤ 1
+  pub one-outcome-at : (j : ℕ) → writtenAt j 4 H + writtenAt j 5 H ≤ 1
+
+-- the run from the maker's world
+abbrev pub freshRun : ℕ → ℕ → ℕ → ℕ → List ℕ → List Ask → Ran
+freshRun n c a willing store asks = run (freshWorld n c a willing) store asks
+
+-- THEOREM 1: over every list of calls, each with any list bytes and any place, from the maker's world and any store
+abbrev pub Demand3 : Type 0
+Demand3 = (n c a willing : ℕ) (store : List ℕ) (asks : List Ask) → Safe n willing (freshRun n c a willing store asks .records)
+
+-- sizes that the maker refuses write no record at all
+abbrev pub RefusedSizes : Type 0
+RefusedSizes =
+    (n c a willing : ℕ) (store : List ℕ) (asks : List Ask) →
+    (sizesNumber n c a willing ≡ 0 → ⊥) → freshRun n c a willing store asks .records ≡ []
+
+-- no 4 beside 5 below n
+pub record NoConflict (n : ℕ) (v : List ℕ) : Type 0 where
+  pub none : (i j : ℕ) → i < n → j < n → getD v i 0 ≡ 4 → getD v j 0 ≡ 5 → ⊥
+
+-- what a delivery of row k to site i finds in a world of n sites: no conflict in the row nor in the merged vector; a join commit
+-- finds no active site, neither as it comes nor after the merge
+pub record Delivered (w : World) (store : List ℕ) (k i : ℕ) : Type 0 where
+  pub row-agrees : NoConflict (w .n) (getRow store k .codes)
+  pub merged-agrees : NoConflict (w .n) (hear i (w .n) (getRow store k .codes) (siteOf w i) .codes)
+  pub not-active : getRow store k .kind ≡ 3 → isActive (stateOf (siteOf w i)) ≡ false
+  pub not-active-then :
+      getRow store k .kind ≡ 3 →
+      isActive (stateOf (adopt i (w .n) (hear i (w .n) (getRow store k .codes) (siteOf w i)) .site)) ≡ false
+
+-- THEOREM 2: after any list of calls, an accepted delivery finds no conflict, and its join commit no active site
+abbrev pub NeverOccurs : Type 0
+NeverOccurs =
+    (n c a willing : ℕ) (store : List ℕ) (asks : List Ask) (ask : Ask) (d : Delivery) (next : ℕ) →
+    readCommand (ask .list) (ask .place) ≡ found (Command·.Deliver d) next →
+    callOf (freshRun n c a willing store asks .world) (freshRun n c a willing store asks .store) ask .number ≡ 0 →
+    Delivered (freshRun n c a willing store asks .world) (freshRun n c a willing store asks .store) (d .row) (d .site)
+
+-- THEOREM 3: a refused call, of whatever number, changes neither world nor store and writes no record
+pub record Unchanged (w : World) (store : List ℕ) (r : Call) : Type 0 where
+  pub world-same : r .world ≡ w
+  pub store-same : r .store ≡ store
+  pub no-record : r .records ≡ []
+
+abbrev pub RefusedChangesNothing : Type 0
+RefusedChangesNothing =
+    (w : World) (store list : List ℕ) (at : ℕ) →
+    (oneCommand w store list at .number ≡ 0 → ⊥) → Unchanged w store (oneCommand w store list at)
+
+-- an accepted call changes one site at most, adds one row at most, and leaves all else: sizes, other sites, the rows below the count and
+-- the bytes beyond the last row
+pub record Kept (w : World) (store : List ℕ) (r : Call) : Type 0 where
+  pub own : ℕ
+  pub own-below : own < w .n
+  pub other-sites : (j : ℕ) → (j ≡ own → ⊥) → siteOf (r .world) j ≡ siteOf w j
+  pub same-n : r .world .n ≡ w .n
+  pub same-commit : r .world .commit ≡ w .commit
+  pub same-abort : r .world .abort ≡ w .abort
+  pub same-willing : r .world .willing ≡ w .willing
+  pub rows-grow : w .rows ≤ r .world .rows
+  pub rows-by-one : r .world .rows ≤ w .rows + 1
+  pub same-length : length (r .store) ≡ length store
+  pub bytes-below : (b : ℕ) → b < rowPlace (w .rows) → getD (r .store) b 0 ≡ getD store b 0
+  pub bytes-beyond : (b : ℕ) → rowPlace (r .world .rows) ≤ b → getD (r .store) b 0 ≡ getD store b 0
+  pub rows-below : (k : ℕ) → k < w .rows → getRow (r .store) k ≡ getRow store k
+  pub own-records : (j code : ℕ) → (j ≡ own → ⊥) → writtenAt j code (r .records) ≡ 0
+
+abbrev pub AcceptedKeepsTheRest : Type 0
+AcceptedKeepsTheRest =
+    (w : World) (store list : List ℕ) (at : ℕ) →
+    oneCommand w store list at .number ≡ 0 → Kept w store (oneCommand w store list at)
+
+-- what the world's type says of every world that the code holds: sixteen sites with two vectors of sixteen codes
+pub record Shaped (w : World) : Type 0 where
+  pub sites : length (w .sites) ≡ 16
+  pub codes : (j : ℕ) → j < 16 → length (siteOf w j .codes) ≡ 16
+  pub joined : (j : ℕ) → j < 16 → length (siteOf w j .joined) ≡ 16
+
+-- THEOREM 4: from any world that passes 17 and any store, an accepted command leaves a world that passes 17
+abbrev pub ValidStaysValid : Type 0
+ValidStaysValid =
+    (w : World) (store list : List ℕ) (at : ℕ) → Shaped w → validWorld w ≡ true →
+    oneCommand w store list at .number ≡ 0 → validWorld (oneCommand w store list at .world) ≡ true

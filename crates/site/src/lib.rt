@@ -1,0 +1,43 @@
+// A site, its log and its rules.
+pub enum Group {
+    None,
+    Commit,
+    Abort,
+}
+
+pub enum Outcome {
+    None,
+    Commit,
+    Abort,
+}
+
+pub enum State {
+    Active,
+    Prepared,
+    CommitGroup,
+    AbortGroup,
+    Committed,
+    Aborted,
+}
+
+// The two quorum sizes, kept apart as kinds of number.
+pub struct CommitQuorum(pub usize);
+
+pub struct AbortQuorum(pub usize);
+
+// One club's machine: up or down, its role, the log's three places, and what it knows of each site.
+pub struct Site {
+    pub up: bool,
+    pub coordinator: bool,
+    pub prepared: bool,
+    pub group: Group,
+    pub joined: [u8; 16],
+    pub outcome: Outcome,
+    pub codes: [u8; 16],
+}
+
+// What a rule hands back: the next site, and the row it sends (kind 0: none).
+pub struct Step {
+    pub site: Site,
+    pub row: row::Row,
+}

@@ -1,0 +1,22 @@
+use borrow.Author.Needs.{needs}
+use Rattle.choice.specs.Choice.{tests}
+use Rattle.vector.specs.Codes.{level}
+use Rattle.vector.proofs.codes.level.Statement.{statement}
+use Rattle.vector.proofs.codes.level.Tie as tie
+use Rattle.vector.proofs.codes.level.Reads as reads
+use Rattle.vector.proofs.codes.level.Lts as lts
+
+returns : tie.Need-returns
+unfolding level
+returns c = search (tests, needs)
+
+returns-2 : tie.Need-returns-2
+unfolding level
+returns-2 c = search (tests, needs)
+
+returns-3 : tie.Need-returns-3
+unfolding level
+returns-3 c = search (tests, needs)
+
+pub level-spec : {M : Type 1} → statement M
+level-spec = tie.close (tie.spec returns returns-2 returns-3)

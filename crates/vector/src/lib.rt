@@ -1,0 +1,10 @@
+// Codes and vectors of codes.
+mod codes;
+mod vector;
+
+pub use codes::is_outcome;
+pub use codes::level;
+pub use vector::count;
+pub use vector::lowest_outcome;
+pub use vector::merge;
+pub use vector::valid_vector;

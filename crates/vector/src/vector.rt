@@ -1,0 +1,109 @@
+// Loops over the sixteen entries of a vector; each turn is a named function.
+ghost use mathlib.Core.Path.{_≡_};
+ghost use Prim.Native.Nat.{_+_, _<_, _≤_};
+ghost use Rattle.choice.specs.Choice.{both};
+ghost use Rattle.vector.specs.Vector.{mergeEntry, entryWeight, merge as mergeOf, count as countOf, firstOutcome, lowestOutcome, validEntry, validVector};
+
+use crate::codes::is_outcome;
+use crate::codes::level;
+
+fn merge_entry(own: usize, k: usize, held: u8, said: u8) -> u8
+    ensures { λ r. ⌜ r ≡ mergeEntry own k held said ⌝ }
+{
+    if k == own {
+        return held;
+    }
+    if level(held) < level(said) {
+        return said;
+    }
+    held
+}
+
+// The vector held, merged with what a row says, for every site below n but the receiver.
+pub fn merge(n: usize, own: usize, said: [u8; 16], held: [u8; 16]) -> [u8; 16]
+    requires { ⌜ n ≤ 16 ⌝ }
+    ensures { λ r. ⌜ r ≡ mergeOf n own said held ⌝ }
+{
+    let mut codes = held;
+    let mut k = 0;
+    while k < n {
+        codes[k] = merge_entry(own, k, codes[k], said[k]);
+        k += 1;
+    }
+    codes
+}
+
+fn entry_weight(held: u8, code: u8) -> usize
+    ensures { λ r. ⌜ (r ≡ entryWeight 1 held code) × (r ≤ 1) ⌝ }
+{
+    if held == code {
+        return 1;
+    }
+    0
+}
+
+// How many entries below n are the code.
+pub fn count(n: usize, codes: [u8; 16], code: u8) -> usize
+    requires { ⌜ n ≤ 16 ⌝ }
+    ensures { λ r. ⌜ r ≡ countOf n codes code ⌝ }
+{
+    let mut total = 0;
+    let mut k = 0;
+    while k < n {
+        total += entry_weight(codes[k], code);
+        k += 1;
+    }
+    total
+}
+
+fn first_outcome(a: u8, b: u8) -> u8
+    ensures { λ r. ⌜ r ≡ firstOutcome a b ⌝ }
+{
+    if is_outcome(a) {
+        return a;
+    }
+    if is_outcome(b) {
+        return b;
+    }
+    0
+}
+
+// The outcome that the lowest site below n shows, or 0.
+pub fn lowest_outcome(n: usize, codes: [u8; 16]) -> u8
+    requires { ⌜ n ≤ 16 ⌝ }
+    ensures { λ r. ⌜ r ≡ lowestOutcome n codes ⌝ }
+{
+    let mut low = 0;
+    let mut k = 0;
+    while k < n {
+        low = first_outcome(low, codes[k]);
+        k += 1;
+    }
+    low
+}
+
+// The entries before k are valid, and the code at k is.
+fn valid_through(before: bool, n: usize, k: usize, code: u8) -> bool
+    ensures { λ r. ⌜ r ≡ both before (validEntry n k code) ⌝ }
+{
+    if before {
+        if k < n {
+            return code <= 5;
+        }
+        return code == 0;
+    }
+    false
+}
+
+// Every entry below n is at most 5 and every other one 0.
+pub fn valid_vector(n: usize, codes: [u8; 16]) -> bool
+    ensures { λ r. ⌜ r ≡ validVector n codes ⌝ }
+{
+    let mut valid = true;
+    let mut k = 0;
+    while k < 16 {
+        valid = valid_through(valid, n, k, codes[k]);
+        k += 1;
+    }
+    valid
+}

@@ -1,0 +1,23 @@
+-- Sizes of a competition. Refusals: 3 n; 4 C or A; 5 willing bit at n or above. Zero: none of them.
+use Prim.Native.Nat.{ℕ, _+_, _^_}
+use lib.Dec.{ltb, leb}
+use Rattle.choice.specs.Choice.{pick, either}
+
+-- at most sixteen sites, rows of a store, bytes of the store
+abbrev pub maxSites : ℕ
+maxSites = 16
+
+abbrev pub maxRows : ℕ
+maxRows = 1024
+
+abbrev pub storeBytes : ℕ
+storeBytes = 20480
+
+-- C and A: each at most n - 1, and C + A at least n + 1; willing sites below n
+unfoldable pub quorumsNumber : ℕ → ℕ → ℕ → ℕ → ℕ
+quorumsNumber n c a willing =
+    pick (leb n c) 4 (pick (leb n a) 4 (pick (leb (c + a) n) 4 (pick (leb (2 ^ n) willing) 5 0)))
+
+-- n: 3 to 16
+unfoldable pub sizesNumber : ℕ → ℕ → ℕ → ℕ → ℕ
+sizesNumber n c a willing = pick (ltb n 3) 3 (pick (ltb maxSites n) 3 (quorumsNumber n c a willing))

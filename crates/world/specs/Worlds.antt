@@ -1,0 +1,77 @@
+-- Worlds: the fresh world and the world of zeros; a world with one field changed.
+use Prim.Native.Nat.{ℕ, zero, suc}
+use mathlib.Core.Bool.{Bool, true, false}
+use mathlib.Core.List.{List}
+use lib.Dec.{eqb}
+use lib.ListN.{getD, set, replicate}
+use Rattle.choice.specs.Choice.{pick}
+use Rattle.row.specs.Bits.{hasBit}
+use Rattle.site.specs.declared.Site.{Site}
+use Rattle.site.specs.Fields.{blankSite}
+use Rattle.world.specs.declared.World.{World}
+use Rattle.world.specs.Sizes.{maxSites, sizesNumber}
+
+-- every site down, subordinate, log empty
+unfoldable pub downSites : List Site
+downSites = replicate 16 (blankSite false)
+
+-- the world of zeros
+unfoldable pub zeroWorld : World
+zeroWorld =
+    record
+    { sites = downSites
+    ; n = 0
+    ; commit = record { 0 = 0 }
+    ; abort = record { 0 = 0 }
+    ; willing = 0
+    ; rows = 0
+    }
+
+-- the sites below n up, the others down
+unfoldable pub freshSites : ℕ → List Site
+freshSites zero = downSites
+freshSites (suc k) = set (freshSites k) k (blankSite true)
+
+-- the maker: a fresh world, or the world of zeros for sizes that break 3 to 5
+unfoldable pub freshWorld : ℕ → ℕ → ℕ → ℕ → World
+freshWorld n c a willing =
+    pick (eqb (sizesNumber n c a willing) 0)
+    (record
+    { sites = freshSites n
+    ; n = n
+    ; commit = record { 0 = c }
+    ; abort = record { 0 = a }
+    ; willing = willing
+    ; rows = 0
+    })
+    zeroWorld
+
+-- a site of a world
+unfoldable pub siteOf : World → ℕ → Site
+siteOf w i = getD (w .sites) i (blankSite false)
+
+-- the site is willing
+unfoldable pub isWilling : World → ℕ → Bool
+isWilling w i = hasBit (w .willing) i
+
+unfoldable pub withSite : ℕ → Site → World → World
+withSite i s w =
+    record
+    { sites = set (w .sites) i s
+    ; n = w .n
+    ; commit = w .commit
+    ; abort = w .abort
+    ; willing = w .willing
+    ; rows = w .rows
+    }
+
+unfoldable pub withRows : ℕ → World → World
+withRows k w =
+    record
+    { sites = w .sites
+    ; n = w .n
+    ; commit = w .commit
+    ; abort = w .abort
+    ; willing = w .willing
+    ; rows = k
+    }
