@@ -1,0 +1,32 @@
+use borrow.Author.Needs.{needs}
+use native.Mathlib.Omega.{arith}
+use lib.Pow.{pow-pos}
+use Rattle.row.specs.Bits.{onlySite, otherSites}
+use Rattle.row.specs.BitLaws.{one-of}
+use Rattle.row.proofs.bits.other_sites.Statement.{statement}
+use Rattle.row.proofs.bits.other_sites.Tie as tie
+use Rattle.row.proofs.bits.other_sites.Reads as reads
+use Rattle.row.proofs.bits.other_sites.Lts as lts
+use Rattle.row.proofs.bits.only_site.Reads as only-site-reads
+
+only-site-requires : tie.Need-only-site-requires
+only-site-requires c κs = search needs
+
+sub-result : tie.Need-sub-result
+unfolding onlySite
+sub-result c = rw (c .only-site .ensures) (pow-pos (c .before .args .n))
+
+only-site-requires-2 : tie.Need-only-site-requires-2
+only-site-requires-2 c κs = search needs
+
+sub-result-2 : tie.Need-sub-result-2
+unfolding onlySite
+sub-result-2 c = omega (arith, one-of (c .before .before .args .n) (c .before .before .args .own) (omega arith), c .only-site2 .ensures, c .before .only-site .ensures)
+
+returns : tie.Need-returns
+unfolding onlySite otherSites
+returns c = cc
+
+pub other-sites-spec : {M : Type 1} → statement M
+other-sites-spec =
+    tie.close (tie.spec only-site-requires sub-result only-site-requires-2 sub-result-2 returns)

@@ -1,0 +1,64 @@
+use borrow.Author.Needs.{needs}
+use native.Mathlib.Omega.{arith}
+use native.Mathlib.Numerals.{add-one}
+use Prim.Native.Nat.{ℕ, _≤_, _-_}
+use mathlib.Core.Path.{_≡_}
+use lib.ListN.{length, length-set}
+use Rattle.choice.specs.Choice.{tests}
+use Rattle.row.specs.Rows.{putCodes}
+use Rattle.row.proofs.store.put_codes.Statement.{statement}
+use Rattle.row.proofs.store.put_codes.Tie as tie
+use Rattle.row.proofs.store.put_codes.Reads as reads
+use Rattle.row.proofs.store.put_codes.Lts as lts
+
+abbrev Inv-loop : tie.InvT-loop
+Inv-loop store₀ at codes k₀ store k = (k ≤ 16) × (length store ≡ length store₀) × (store ≡ putCodes k store₀ at codes)
+
+abbrev μ-loop : tie.MeasureT-loop
+μ-loop store₀ at codes k₀ store k = 16 - k
+
+loop-holds : tie.Need-loop-holds Inv-loop μ-loop
+unfolding putCodes
+loop-holds c = (omega arith, search needs, search needs)
+
+array-read-store : tie.Need-array-read-store Inv-loop μ-loop
+array-read-store c = search needs
+
+add-store : tie.Need-add-store Inv-loop μ-loop
+add-store c = search needs
+
+slice-write-store : tie.Need-slice-write-store Inv-loop μ-loop
+slice-write-store c = search needs
+
+add-k : tie.Need-add-k Inv-loop μ-loop
+add-k c = search needs
+
+loop-less : tie.Need-loop-less Inv-loop μ-loop
+loop-less c = search needs
+
+loop-again : tie.Need-loop-again Inv-loop μ-loop
+unfolding putCodes
+loop-again c = (omega arith, simp length-set (omega arith), rw add-one (cc))
+
+same-length : tie.Need-same-length Inv-loop μ-loop
+same-length c = search needs
+
+returns : tie.Need-returns Inv-loop μ-loop
+unfolding putCodes
+returns c = let e : _≡_ {A = ℕ} (c .before .loop .k) (16) = omega arith in cc
+
+pub put-codes-spec : {M : Type 1} → statement M
+put-codes-spec =
+    tie.close
+    (tie.spec
+    Inv-loop
+    μ-loop
+    loop-holds
+    array-read-store
+    add-store
+    slice-write-store
+    add-k
+    loop-less
+    loop-again
+    same-length
+    returns)
