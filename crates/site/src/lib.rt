@@ -1,4 +1,14 @@
 // A site, its log and its rules.
+mod deliver;
+mod log;
+mod rules;
+mod send;
+mod states;
+mod timeout;
+
+pub use states::code_of;
+pub use states::is_active;
+
 pub enum Group {
     None,
     Commit,
@@ -25,7 +35,8 @@ pub struct CommitQuorum(pub usize);
 
 pub struct AbortQuorum(pub usize);
 
-// One club's machine: up or down, its role, the log's three places, and what it knows of each site.
+// One machine: up or down, its role, the log's three places (the group record keeps the vector after joining), and what it knows of
+// each site.
 pub struct Site {
     pub up: bool,
     pub coordinator: bool,

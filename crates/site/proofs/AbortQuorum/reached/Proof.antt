@@ -1,0 +1,17 @@
+use borrow.Author.Needs.{needs}
+use Rattle.site.specs.State.{abortReached}
+use Rattle.site.proofs.AbortQuorum.reached.Statement.{statement}
+use Rattle.site.proofs.AbortQuorum.reached.Tie as tie
+use Rattle.site.proofs.AbortQuorum.reached.Reads as reads
+use Rattle.site.proofs.AbortQuorum.reached.Lts as lts
+use Rattle.vector.proofs.count.Reads as count-reads
+
+count-requires : tie.Need-count-requires
+count-requires c κs = search needs
+
+returns : tie.Need-returns
+unfolding abortReached
+returns c = cc
+
+pub reached-spec : {M : Type 1} → statement M
+reached-spec = tie.close (tie.spec count-requires returns)

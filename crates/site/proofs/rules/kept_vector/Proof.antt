@@ -1,0 +1,32 @@
+use borrow.Author.Needs.{needs}
+use Rattle.site.specs.Fields.{zeroVector}
+use Rattle.site.specs.Rules.{keptVector}
+use Rattle.site.proofs.rules.kept_vector.Statement.{statement}
+use Rattle.site.proofs.rules.kept_vector.Tie as tie
+use Rattle.site.proofs.rules.kept_vector.Reads as reads
+use Rattle.site.proofs.rules.kept_vector.Lts as lts
+
+enum-told : tie.Need-enum-told
+enum-told c = search needs
+
+enum-told-2 : tie.Need-enum-told-2
+enum-told-2 c = search needs
+
+enum-told-3 : tie.Need-enum-told-3
+enum-told-3 c = search needs
+
+returns : tie.Need-returns
+unfolding keptVector zeroVector
+returns c = cc
+
+returns-2 : tie.Need-returns-2
+unfolding keptVector zeroVector
+returns-2 c = cc
+
+returns-3 : tie.Need-returns-3
+unfolding keptVector zeroVector
+returns-3 c = cc
+
+pub kept-vector-spec : {M : Type 1} → statement M
+kept-vector-spec =
+    tie.close (tie.spec enum-told enum-told-2 enum-told-3 returns returns-2 returns-3)
