@@ -50,3 +50,8 @@ readByte byte list at =
 -- the command at a place of a list
 unfoldable pub readCommand : List ℕ → ℕ → Reading
 readCommand list at = pick (ltb at (length list)) (readByte (getD list at 0) list at) (refused 6 at)
+
+-- the number and place of an answer: a refusal's own; 0 with the next place for a command
+unfoldable pub refusalOf : Reading → Refusal
+refusalOf (Reading·.Refused r) = r
+refusalOf (Reading·.Found p) = record { number = 0; place = p .next }

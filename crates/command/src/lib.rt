@@ -1,4 +1,9 @@
 // The command reader.
+mod reader;
+
+pub use reader::read_command;
+pub use reader::refusal_of;
+
 pub struct Delivery {
     pub row: usize,
     pub site: usize,

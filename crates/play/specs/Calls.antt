@@ -1,7 +1,8 @@
 -- A call's answer, and how a rule's move enters world and store. Refusal 15: a row is to be added and 1,024 are there.
-use Prim.Native.Nat.{ℕ, _+_}
+use Prim.Native.Nat.{ℕ, _+_, _≤_}
 use mathlib.Core.List.{List, []}
 use lib.Dec.{ltb, eqb}
+use lib.ListN.{length}
 use Rattle.choice.specs.Choice.{pick}
 use Rattle.row.specs.Rows.{putRow}
 use Rattle.site.specs.Records.{Written}
@@ -9,6 +10,7 @@ use Rattle.site.specs.Rules.{Move}
 use Rattle.world.specs.declared.World.{World}
 use Rattle.world.specs.Sizes.{maxRows}
 use Rattle.world.specs.Worlds.{withSite, withRows}
+use Rattle.play.specs.declared.Played.{Played}
 
 -- what a call leaves: number (0: accepted), world, store, place (after the operands where accepted, that of the command byte where
 -- refused: the papers leave it open) and the records written
@@ -50,3 +52,14 @@ unfoldable pub enter : World → List ℕ → ℕ → ℕ → ℕ → Move → C
 enter w store at next own m =
     pick (eqb (m .step .row .kind) 0) (enterSilent w store next own m)
     (pick (ltb (w .rows) maxRows) (enterRow w store next own m) (refuse 15 w store at))
+
+-- what the code hands back of a call, beside the store that it was lent
+unfoldable pub playedOf : Call → Played
+playedOf r = record { number = r .number; world = r .world; place = r .place }
+
+-- what lets a command be played with no further check: sizes in range, rows that the store can hold
+pub record Ready (w : World) (store : List ℕ) : Type 0 where
+  pub low : 3 ≤ w .n
+  pub high : w .n ≤ 16
+  pub few : w .rows ≤ 1024
+  pub room : 20480 ≤ length store

@@ -11,10 +11,10 @@ use Rattle.world.specs.Sizes.{sizesNumber}
 use Rattle.world.specs.Worlds.{zeroWorld}
 use Rattle.play.specs.Run.{Ask, run}
 use Rattle.safety.specs.Claims.{written, writtenAt, outcomes, Safe, Demand3, RefusedSizes}
-use Rattle.safety.specs.Cases.{by-test, by-equal}
+use Rattle.choice.specs.Cases.{by-test, by-equal}
 use Rattle.safety.specs.HistoryLaws.{some-site, written-at-sites, one-each}
 use Rattle.safety.specs.Weights.{totalWeight, total-sites}
-use Rattle.safety.specs.WorldLaws.{Sized, sized}
+use Rattle.world.specs.SizesLaws.{Sized, sized}
 use Rattle.safety.specs.Truth.{Terms, AllPrepared, TrueHistory}
 use Rattle.safety.specs.TruthLaws.{commit-prepared, not-both}
 use Rattle.safety.specs.Invariant.{termsOf}

@@ -8,7 +8,7 @@ use lib.Dec.{ltb, eqb}
 use borrow.Author.Tests.{eq-eqb, ne-eqb, ltb-true, ltb-false}
 use Rattle.choice.specs.Choice.{pick, pick-on, pick-off}
 use Rattle.site.specs.Records.{Written, LogRecord, wrote, recordCode}
-use Rattle.safety.specs.Cases.{by-test, by-equal}
+use Rattle.choice.specs.Cases.{by-test, by-equal}
 use Rattle.safety.specs.Claims.{written, writtenAt}
 
 -- the second history has at least the first's records

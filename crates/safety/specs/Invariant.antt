@@ -18,7 +18,7 @@ use Rattle.world.specs.Sizes.{maxRows, storeBytes}
 use Rattle.world.specs.Worlds.{siteOf, isWilling, withSite, withRows}
 use Rattle.play.specs.Calls.{Call, refuse, enterSilent, enterRow}
 use Rattle.safety.specs.View.{Turn, by-start, by-timeout, by-deliver, by-crash, by-recover, Seen, as-refused, as-silent, as-row}
-use Rattle.safety.specs.Cases.{by-equal}
+use Rattle.choice.specs.Cases.{by-equal}
 use Rattle.safety.specs.HistoryLaws.{grown-append}
 use Rattle.safety.specs.Truth.{Terms, siteTerms, TrueHistory, TrueCode, TrueSite, TrueRow}
 use Rattle.safety.specs.TruthLaws.{row-grows, site-grows, says, says-active}

@@ -1,7 +1,5 @@
 pub mod Claims
 pub mod View
-pub mod Cases
-pub mod WorldLaws
 pub mod ViewLaws
 pub mod Turns
 pub mod Unchanging

@@ -26,10 +26,11 @@ use Rattle.play.specs.Calls.{refuse}
 use Rattle.play.specs.Commands.{deliverRow, deliverCall, perform, performRead, playCommand, oneCommand}
 use Rattle.play.specs.Run.{Ask, Ran, run, callOf}
 use Rattle.safety.specs.Claims.{NoConflict, Delivered, NeverOccurs}
-use Rattle.safety.specs.Cases.{by-equal}
+use Rattle.choice.specs.Cases.{by-equal}
 use Rattle.safety.specs.HistoryLaws.{grown-append}
 use Rattle.safety.specs.Weights.{totalWeight, total-sites}
-use Rattle.safety.specs.WorldLaws.{Sized, sized, valid-sized}
+use Rattle.world.specs.SizesLaws.{Sized, sized}
+use Rattle.world.specs.WorldLaws.{valid-sized}
 use Rattle.safety.specs.Truth.{Terms, TrueHistory, TrueCode, TrueRow}
 use Rattle.safety.specs.TruthLaws.{all-prepared-grows, not-both, says, says-not-active}
 use Rattle.safety.specs.Fair.{Standing, FairNoted}

@@ -23,7 +23,8 @@ use Rattle.play.specs.Commands.{oneCommand}
 use Rattle.safety.specs.Claims.{Shaped}
 use Rattle.safety.specs.View.{Granted, Seen, as-refused, as-silent, as-row}
 use Rattle.safety.specs.ViewLaws.{view}
-use Rattle.safety.specs.WorldLaws.{sized, valid-sized, put-ind}
+use Rattle.world.specs.SizesLaws.{sized}
+use Rattle.world.specs.WorldLaws.{valid-sized, put-ind}
 use Rattle.safety.specs.Turns.{Steady, turn-keeps}
 
 -- a site with two vectors of sixteen codes

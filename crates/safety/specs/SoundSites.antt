@@ -26,7 +26,7 @@ use Rattle.site.specs.Records.{Kind, commit, abort, groupRecord, outcomeRecord,
 use Rattle.site.specs.Records.{withOwn, writePrepare, joinGroup, writeOutcome}
 use Rattle.site.specs.Rules.{hear, keptVector}
 use Rattle.world.specs.Valid.{validGroup, validSite}
-use Rattle.safety.specs.Cases.{by-equal}
+use Rattle.choice.specs.Cases.{by-equal}
 use Rattle.safety.specs.Shape.{Long, kept-length, long-steady}
 use Rattle.safety.specs.Turns.{Steady}
 

@@ -13,7 +13,7 @@ use Rattle.play.specs.Commands.{oneCommand}
 use Rattle.safety.specs.Claims.{Shaped, ValidStaysValid}
 use Rattle.safety.specs.View.{Granted, Seen, as-refused, as-silent, as-row}
 use Rattle.safety.specs.ViewLaws.{view}
-use Rattle.safety.specs.WorldLaws.{ValidParts, valid-parts, valid-whole, valid-sized, put-ind}
+use Rattle.world.specs.WorldLaws.{ValidParts, valid-parts, valid-whole, valid-sized, put-ind}
 use Rattle.safety.specs.Turns.{turn-keeps}
 use Rattle.safety.specs.Shape.{long-of}
 use Rattle.safety.specs.SoundSites.{SoundSite, site-sound, site-valid, sound-steady}

@@ -36,7 +36,7 @@ use Rattle.play.specs.Commands.{
 }
 use Rattle.safety.specs.View.{Turn, by-start, by-timeout, by-deliver, by-crash, by-recover}
 use Rattle.safety.specs.View.{Granted, Seen, as-refused, as-silent, as-row}
-use Rattle.safety.specs.WorldLaws.{valid-sized}
+use Rattle.world.specs.WorldLaws.{valid-sized}
 
 -- a call past 16 and 17
 module _ (w : World) (store : List ℕ) (valid : validWorld w ≡ true) (room : storeBytes ≤ length store) (at : ℕ) where

@@ -10,7 +10,7 @@ use Rattle.choice.specs.Choice.{pick}
 use Rattle.vector.specs.Codes.{isOutcome}
 use Rattle.vector.specs.Vector.{entryWeight, weigh, siteWeight, firstOutcome, lowestOutcome}
 use Rattle.site.specs.Records.{Written}
-use Rattle.safety.specs.Cases.{by-test, by-equal}
+use Rattle.choice.specs.Cases.{by-test, by-equal}
 use Rattle.safety.specs.Claims.{writtenAt}
 use Rattle.safety.specs.HistoryLaws.{Grown}
 

@@ -12,7 +12,7 @@ use Rattle.row.specs.Bits.{hasBit}
 use Rattle.site.specs.declared.Site.{Site}
 use Rattle.site.specs.Fields.{withPrepared, withGroup, withOutcome, withCodes}
 use Rattle.site.specs.Records.{Written, LogRecord, prepareRecord, groupRecord, outcomeRecord, commit, abort, wrote, recordCode, groupOf, outcomeOf, withOwn, writePrepare, joinGroup, writeOutcome}
-use Rattle.safety.specs.Cases.{at-and-elsewhere, by-equal}
+use Rattle.choice.specs.Cases.{at-and-elsewhere, by-equal}
 use Rattle.safety.specs.Claims.{writtenAt}
 use Rattle.safety.specs.HistoryLaws.{Grown, at-append, at-own, at-other, grown-append}
 use Rattle.safety.specs.Weights.{weighRecords, records-grow}

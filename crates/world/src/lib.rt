@@ -1,9 +1,26 @@
 // The world of a competition: its maker and the check behind 17.
+mod fresh;
+mod parts;
+mod sizes;
+mod valid;
+
+pub use sizes::sizes_number;
+
 pub struct World {
-    pub sites: [site::Site; 16],
+    pub sites: [site::Site; World::SITES],
     pub n: usize,
     pub commit: site::CommitQuorum,
     pub abort: site::AbortQuorum,
     pub willing: usize,
     pub rows: usize,
+}
+
+impl World {
+    pub const SITES: usize = 16;
+
+    pub const ROWS: usize = 1024;
+
+    pub const LIST_BYTES: usize = 32768;
+
+    pub const STORE_BYTES: usize = 20480;
 }

@@ -1,0 +1,138 @@
+// The reader of one command.
+ghost use mathlib.Core.Path.{_≡_};
+ghost use Prim.Native.Nat.{_+_, _<_, _≤_};
+ghost use lib.ListN.{length};
+ghost use Rattle.command.specs.declared.Command.the-variants as Command·;
+ghost use Rattle.command.specs.Commands.{found as foundAt, refused as refusedAt, target, delivery, readTarget, readDelivery, readByte, readCommand, refusalOf};
+use crate::Command;
+use crate::Delivery;
+use crate::Parsed;
+use crate::Reading;
+use crate::Refusal;
+use crate::Target;
+
+// A byte as a wider number.
+fn wide(byte: u8) -> usize
+    ensures { λ r. ⌜ (r ≡ byte) × (r < 256) ⌝ }
+{
+    byte as usize
+}
+
+// A command, and the place after its operands.
+fn found(command: Command, next: usize) -> Reading
+    ensures { λ r. ⌜ r ≡ foundAt command next ⌝ }
+{
+    Reading::Found(Parsed { command, next })
+}
+
+fn refused(number: u8, place: usize) -> Reading
+    ensures { λ r. ⌜ r ≡ refusedAt number place ⌝ }
+{
+    Reading::Refused(Refusal { number, place })
+}
+
+fn target_at(list: &[u8], at: usize) -> Target
+    requires { ⌜ at + 2 ≤ length (now list) ⌝ }
+    ensures { λ r. ⌜ r ≡ target (now (list .entry)) at ⌝ }
+{
+    Target {
+        site: wide(list[at + 1]),
+    }
+}
+
+// The row number has its low byte first.
+fn delivery_at(list: &[u8], at: usize) -> Delivery
+    requires { ⌜ at + 4 ≤ length (now list) ⌝ }
+    ensures { λ r. ⌜ r ≡ delivery (now (list .entry)) at ⌝ }
+{
+    Delivery {
+        row: wide(list[at + 1]) + 256 * wide(list[at + 2]),
+        site: wide(list[at + 3]),
+    }
+}
+
+fn read_delivery(list: &[u8], at: usize) -> Reading
+    requires { ⌜ at < length (now list) ⌝ }
+    ensures { λ r. ⌜ r ≡ readDelivery (now (list .entry)) at ⌝ }
+{
+    if list.len() - at < 4 {
+        return refused(7, at);
+    }
+    found(Command::Deliver(delivery_at(list, at)), at + 4)
+}
+
+fn read_timeout(list: &[u8], at: usize) -> Reading
+    requires { ⌜ at < length (now list) ⌝ }
+    ensures { λ r. ⌜ r ≡ readTarget Command·.Timeout (now (list .entry)) at ⌝ }
+{
+    if list.len() - at < 2 {
+        return refused(7, at);
+    }
+    found(Command::Timeout(target_at(list, at)), at + 2)
+}
+
+fn read_crash(list: &[u8], at: usize) -> Reading
+    requires { ⌜ at < length (now list) ⌝ }
+    ensures { λ r. ⌜ r ≡ readTarget Command·.Crash (now (list .entry)) at ⌝ }
+{
+    if list.len() - at < 2 {
+        return refused(7, at);
+    }
+    found(Command::Crash(target_at(list, at)), at + 2)
+}
+
+fn read_recover(list: &[u8], at: usize) -> Reading
+    requires { ⌜ at < length (now list) ⌝ }
+    ensures { λ r. ⌜ r ≡ readTarget Command·.Recover (now (list .entry)) at ⌝ }
+{
+    if list.len() - at < 2 {
+        return refused(7, at);
+    }
+    found(Command::Recover(target_at(list, at)), at + 2)
+}
+
+// By the command byte's value.
+fn read_byte(byte: u8, list: &[u8], at: usize) -> Reading
+    requires { ⌜ at < length (now list) ⌝ }
+    ensures { λ r. ⌜ r ≡ readByte byte (now (list .entry)) at ⌝ }
+{
+    if byte == 1 {
+        return found(Command::Start, at + 1);
+    }
+    if byte == 2 {
+        return read_delivery(list, at);
+    }
+    if byte == 3 {
+        return read_timeout(list, at);
+    }
+    if byte == 4 {
+        return read_crash(list, at);
+    }
+    if byte == 5 {
+        return read_recover(list, at);
+    }
+    refused(6, at)
+}
+
+// The command at a place of a list.
+pub fn read_command(list: &[u8], at: usize) -> Reading
+    ensures { λ r. ⌜ r ≡ readCommand (now (list .entry)) at ⌝ }
+{
+    if at < list.len() {
+        return read_byte(list[at], list, at);
+    }
+    refused(6, at)
+}
+
+// The refusal of an answer that is none of a command.
+pub fn refusal_of(reading: Reading) -> Refusal
+    ensures { λ r. ⌜ r ≡ refusalOf reading ⌝ }
+{
+    match reading {
+        Reading::Refused(refusal) => refusal,
+        Reading::Found(parsed) => Refusal {
+            number: 0,
+            place: parsed.next,
+        },
+    }
+}

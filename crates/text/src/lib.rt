@@ -1,0 +1,1 @@
+// Words and decimal numbers appended to a lent buffer.

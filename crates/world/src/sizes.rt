@@ -1,0 +1,37 @@
+// Sizes of a competition, and the refusal they meet.
+ghost use mathlib.Core.Path.{_≡_};
+ghost use Prim.Native.Nat.{_≤_};
+ghost use Rattle.world.specs.Sizes.{quorumsNumber, sizesNumber};
+use crate::World;
+
+fn quorums_number(n: usize, c: usize, a: usize, willing: usize) -> u8
+    requires { ⌜ n ≤ 16 ⌝ }
+    ensures { λ r. ⌜ r ≡ quorumsNumber n c a willing ⌝ }
+{
+    if n <= c {
+        return 4;
+    }
+    if n <= a {
+        return 4;
+    }
+    if c + a <= n {
+        return 4;
+    }
+    if row::only_site(n) <= willing {
+        return 5;
+    }
+    0
+}
+
+// The number of the first refusal that the sizes meet, or 0.
+pub fn sizes_number(n: usize, c: usize, a: usize, willing: usize) -> u8
+    ensures { λ r. ⌜ r ≡ sizesNumber n c a willing ⌝ }
+{
+    if n < 3 {
+        return 3;
+    }
+    if World::SITES < n {
+        return 3;
+    }
+    quorums_number(n, c, a, willing)
+}
