@@ -28,23 +28,23 @@ refuse number w store at = record { number = number; world = w; store = store; p
 -- the site put back, no row
 unfoldable pub enterSilent : World → List ℕ → ℕ → ℕ → Move → Call
 enterSilent w store next own m =
-    record
-    { number = 0
-    ; world = withSite own (m .step .site) w
-    ; store = store
-    ; place = next
-    ; records = m .records
+    record {
+      number = 0;
+      world = withSite own (m .step .site) w;
+      store = store;
+      place = next;
+      records = m .records;
     }
 
 -- the site put back, and its row added after the last
 unfoldable pub enterRow : World → List ℕ → ℕ → ℕ → Move → Call
 enterRow w store next own m =
-    record
-    { number = 0
-    ; world = withRows (w .rows + 1) (withSite own (m .step .site) w)
-    ; store = putRow store (w .rows) (m .step .row)
-    ; place = next
-    ; records = m .records
+    record {
+      number = 0;
+      world = withRows (w .rows + 1) (withSite own (m .step .site) w);
+      store = putRow store (w .rows) (m .step .row);
+      place = next;
+      records = m .records;
     }
 
 -- a move of site `own` put into world and store, or 15

@@ -3,7 +3,6 @@ ghost use mathlib.Core.Path.{_≡_};
 ghost use Prim.Native.Nat.{_<_};
 ghost use Rattle.play.specs.Calls.{Ready, playedOf};
 ghost use Rattle.play.specs.Commands.{startCall, timeoutCall, crashCall, recoverCall, deliverRow, deliverCall};
-
 use crate::Played;
 use crate::enter::enter;
 use row::Row;
@@ -108,7 +107,14 @@ pub fn recover(world: World, store: &mut [u8], at: usize, next: usize, own: usiz
 }
 
 // A row that is there, to a site below n.
-fn deliver_row(world: World, store: &mut [u8], at: usize, next: usize, row: Row, own: usize) -> Played
+fn deliver_row(
+    world: World,
+    store: &mut [u8],
+    at: usize,
+    next: usize,
+    row: Row,
+    own: usize,
+) -> Played
     requires { ⌜ Ready world (now store) × (own < world .n) ⌝ }
     ensures played { λ r. ⌜ r ≡ playedOf (deliverRow world (now (store .entry)) at next row own) ⌝ }
     ensures stored { λ r. ⌜ now (store .exit) ≡ (deliverRow world (now (store .entry)) at next row own) .store ⌝ }
@@ -139,7 +145,14 @@ fn deliver_row(world: World, store: &mut [u8], at: usize, next: usize, row: Row,
     }
 }
 
-pub fn deliver(world: World, store: &mut [u8], at: usize, next: usize, k: usize, own: usize) -> Played
+pub fn deliver(
+    world: World,
+    store: &mut [u8],
+    at: usize,
+    next: usize,
+    k: usize,
+    own: usize,
+) -> Played
     requires { ⌜ Ready world (now store) ⌝ }
     ensures played { λ r. ⌜ r ≡ playedOf (deliverCall world (now (store .entry)) at next k own) ⌝ }
     ensures stored { λ r. ⌜ now (store .exit) ≡ (deliverCall world (now (store .entry)) at next k own) .store ⌝ }

@@ -4,13 +4,19 @@ ghost use mathlib.Core.List.{List};
 ghost use Prim.Native.Nat.{_<_};
 ghost use Rattle.site.specs.Records.{Written};
 ghost use Rattle.play.specs.Calls.{Ready, enter, playedOf};
-
 use crate::Played;
 use site::Step;
 use world::World;
 
 // The site put back and its row added; 15 where there is no room for it. The records that the step wrote do not matter here.
-pub fn enter(world: World, store: &mut [u8], at: usize, next: usize, own: usize, step: Step) -> Played
+pub fn enter(
+    world: World,
+    store: &mut [u8],
+    at: usize,
+    next: usize,
+    own: usize,
+    step: Step,
+) -> Played
     requires { ⌜ Ready world (now store) × (own < 16) ⌝ }
     ensures played { λ r. ⌜ ((records : List Written) → r ≡ playedOf (enter world (now (store .entry)) at next own (record { step = step; records = records }))) ⌝ }
     ensures stored { λ r. ⌜ ((records : List Written) → now (store .exit) ≡ (enter world (now (store .entry)) at next own (record { step = step; records = records })) .store) ⌝ }

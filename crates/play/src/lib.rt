@@ -5,7 +5,6 @@ mod perform;
 
 pub use perform::one_command;
 pub use perform::play_command;
-
 use world::World;
 
 // A call's answer beside the store: number (0: accepted), world, and the place after the operands, or that of the refused command.

@@ -2,7 +2,6 @@
 ghost use mathlib.Core.Path.{_≡_};
 ghost use Rattle.play.specs.Calls.{Ready, playedOf};
 ghost use Rattle.play.specs.Commands.{perform, playCommand, oneCommand};
-
 use crate::Played;
 use crate::commands::crash;
 use crate::commands::deliver;

@@ -43,11 +43,11 @@ codesFrom (suc k) store at = set (codesFrom k store at) k (getD store (at + k) 0
 -- the row that lies at a place
 unfoldable pub rowAt : List ℕ → ℕ → Row
 rowAt store at =
-    record
-    { kind = getD store at 0
-    ; sender = getD store (at + 1) 0
-    ; destinations = getD store (at + 2) 0 + 256 * getD store (at + 3) 0
-    ; codes = codesFrom 16 store (at + 4)
+    record {
+      kind = getD store at 0;
+      sender = getD store (at + 1) 0;
+      destinations = getD store (at + 2) 0 + 256 * getD store (at + 3) 0;
+      codes = codesFrom 16 store (at + 4);
     }
 
 -- row k of the store

@@ -4,7 +4,6 @@ ghost use Prim.Native.Nat.{_≤_, _<_};
 ghost use lib.Dec.{leb};
 ghost use Rattle.choice.specs.Choice.{both};
 ghost use Rattle.row.specs.Rows.{codesKnown, rowKnown};
-
 use crate::Row;
 
 // The codes before one are at most 5, and it is.

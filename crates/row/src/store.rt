@@ -3,7 +3,6 @@ ghost use mathlib.Core.Path.{_≡_};
 ghost use Prim.Native.Nat.{_+_, _<_, _≤_};
 ghost use lib.ListN.{length};
 ghost use Rattle.row.specs.Rows.{noRow, putHead, putCodes, putRow, getRow, rowPlace, codesFrom};
-
 use crate::Row;
 
 pub fn no_row() -> Row

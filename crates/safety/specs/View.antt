@@ -16,11 +16,11 @@ use Rattle.play.specs.Calls.{Call, refuse, enterSilent, enterRow}
 -- the move of a site by a rule, with what the refusals have made sure of
 pub data Turn (w : World) (store : List ℕ) : ℕ → Move → Type 0 where
   by-start :
-    isActive (stateOf (siteOf w 0)) ≡ true → Turn w store 0 (start (w .n) (isWilling w 0) (siteOf w 0))
+      isActive (stateOf (siteOf w 0)) ≡ true → Turn w store 0 (start (w .n) (isWilling w 0) (siteOf w 0))
   by-timeout : (i : ℕ) → Turn w store i (timeout i (w .n) (w .commit) (w .abort) (siteOf w i))
   by-deliver :
-    (i k : ℕ) → k < w .rows → rowKnown (w .n) (getRow store k) ≡ true →
-    Turn w store i (deliver i (w .n) (isWilling w i) (getRow store k) (siteOf w i))
+      (i k : ℕ) → k < w .rows → rowKnown (w .n) (getRow store k) ≡ true →
+      Turn w store i (deliver i (w .n) (isWilling w i) (getRow store k) (siteOf w i))
   by-crash : (i : ℕ) → Turn w store i (crash i (siteOf w i))
   by-recover : (i : ℕ) → Turn w store i (recover (siteOf w i))
 
@@ -34,8 +34,8 @@ pub record Granted (w : World) (store : List ℕ) (own : ℕ) (m : Move) : Type 
 pub data Seen (w : World) (store : List ℕ) : Call → Type 0 where
   as-refused : (number place : ℕ) → (number ≡ 0 → ⊥) → Seen w store (refuse number w store place)
   as-silent :
-    (next own : ℕ) (m : Move) → Granted w store own m → m .step .row .kind ≡ 0 →
-    Seen w store (enterSilent w store next own m)
+      (next own : ℕ) (m : Move) → Granted w store own m → m .step .row .kind ≡ 0 →
+      Seen w store (enterSilent w store next own m)
   as-row :
-    (next own : ℕ) (m : Move) → Granted w store own m → (m .step .row .kind ≡ 0 → ⊥) → w .rows < maxRows →
-    Seen w store (enterRow w store next own m)
+      (next own : ℕ) (m : Move) → Granted w store own m → (m .step .row .kind ≡ 0 → ⊥) → w .rows < maxRows →
+      Seen w store (enterRow w store next own m)

@@ -5,7 +5,6 @@ ghost use Prim.Native.Nat.{_<_, _≤_};
 ghost use Rattle.site.specs.State.{stateOf};
 ghost use Rattle.site.specs.Records.{Written};
 ghost use Rattle.site.specs.Rules.{adopt, voteIn, joinCommitIn, joinAbortIn, answer, deliver};
-
 use crate::Group;
 use crate::Outcome;
 use crate::Site;
@@ -115,6 +114,7 @@ impl Site {
         let held = self.codes;
         let merged = vector::merge(n, own, said, held);
         self.codes = merged;
-        self.adopt(own, n).answer(row.kind, own, row.sender, willing)
+        self.adopt(own, n)
+            .answer(row.kind, own, row.sender, willing)
     }
 }

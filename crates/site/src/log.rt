@@ -5,7 +5,6 @@ ghost use Prim.Native.Nat.{_<_};
 ghost use lib.ListN.{set};
 ghost use Rattle.site.specs.Fields.{blankSite, withGroup, withOutcome};
 ghost use Rattle.site.specs.Records.{writePrepare, withOwn};
-
 use crate::Group;
 use crate::Outcome;
 use crate::Site;

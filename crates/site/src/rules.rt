@@ -2,7 +2,6 @@
 ghost use mathlib.Core.Path.{_≡_};
 ghost use Prim.Native.Nat.{_<_, _≤_};
 ghost use Rattle.site.specs.Rules.{start, keptVector, crash, recover};
-
 use crate::Group;
 use crate::Outcome;
 use crate::Site;

@@ -3,7 +3,6 @@ ghost use mathlib.Core.Path.{_≡_};
 ghost use mathlib.Core.List.{[]};
 ghost use Prim.Native.Nat.{_<_, _≤_};
 ghost use Rattle.site.specs.Rules.{silent, commanding, replying};
-
 use crate::Site;
 use crate::Step;
 use row::Row;

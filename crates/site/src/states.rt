@@ -2,7 +2,6 @@
 ghost use mathlib.Core.Path.{_≡_};
 ghost use Prim.Native.Nat.{_≤_};
 ghost use Rattle.site.specs.State.{stateBy, stateOf, codeOf, isTerminated, isActive, commitReached, abortReached};
-
 use crate::AbortQuorum;
 use crate::CommitQuorum;
 use crate::Group;

@@ -3,7 +3,6 @@ ghost use mathlib.Core.Path.{_≡_};
 ghost use Prim.Native.Nat.{_<_, _≤_};
 ghost use Rattle.choice.specs.Choice.{pick};
 ghost use Rattle.site.specs.Rules.{takeOver, chooseGroup, decideCommit, decideAbort, timeout};
-
 use crate::AbortQuorum;
 use crate::CommitQuorum;
 use crate::Group;
@@ -46,7 +45,8 @@ impl Site {
         if self.coordinator {
             let codes = self.codes;
             if commit.reached(n, codes) {
-                return self.write_outcome(own, Outcome::Commit, 4).commanding(6, own, n);
+                return self.write_outcome(own, Outcome::Commit, 4)
+                    .commanding(6, own, n);
             }
             return self.commanding(3, own, n);
         }
@@ -60,7 +60,8 @@ impl Site {
         if self.coordinator {
             let codes = self.codes;
             if abort.reached(n, codes) {
-                return self.write_outcome(own, Outcome::Abort, 5).commanding(6, own, n);
+                return self.write_outcome(own, Outcome::Abort, 5)
+                    .commanding(6, own, n);
             }
             return self.commanding(4, own, n);
         }

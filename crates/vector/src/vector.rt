@@ -3,7 +3,6 @@ ghost use mathlib.Core.Path.{_≡_};
 ghost use Prim.Native.Nat.{_+_, _<_, _≤_};
 ghost use Rattle.choice.specs.Choice.{both};
 ghost use Rattle.vector.specs.Vector.{mergeEntry, entryWeight, merge as mergeOf, count as countOf, firstOutcome, lowestOutcome, validEntry, validVector};
-
 use crate::codes::is_outcome;
 use crate::codes::level;
 

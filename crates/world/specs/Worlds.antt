@@ -18,13 +18,13 @@ downSites = replicate 16 (blankSite false)
 -- the world of zeros
 unfoldable pub zeroWorld : World
 zeroWorld =
-    record
-    { sites = downSites
-    ; n = 0
-    ; commit = record { 0 = 0 }
-    ; abort = record { 0 = 0 }
-    ; willing = 0
-    ; rows = 0
+    record {
+      sites = downSites;
+      n = 0;
+      commit = record { 0 = 0 };
+      abort = record { 0 = 0 };
+      willing = 0;
+      rows = 0;
     }
 
 -- the sites below n up, the others down
@@ -36,13 +36,13 @@ freshSites (suc k) = set (freshSites k) k (blankSite true)
 unfoldable pub freshWorld : ℕ → ℕ → ℕ → ℕ → World
 freshWorld n c a willing =
     pick (eqb (sizesNumber n c a willing) 0)
-    (record
-    { sites = freshSites n
-    ; n = n
-    ; commit = record { 0 = c }
-    ; abort = record { 0 = a }
-    ; willing = willing
-    ; rows = 0
+    (record {
+      sites = freshSites n;
+      n = n;
+      commit = record { 0 = c };
+      abort = record { 0 = a };
+      willing = willing;
+      rows = 0;
     })
     zeroWorld
 
@@ -56,22 +56,22 @@ isWilling w i = hasBit (w .willing) i
 
 unfoldable pub withSite : ℕ → Site → World → World
 withSite i s w =
-    record
-    { sites = set (w .sites) i s
-    ; n = w .n
-    ; commit = w .commit
-    ; abort = w .abort
-    ; willing = w .willing
-    ; rows = w .rows
+    record {
+      sites = set (w .sites) i s;
+      n = w .n;
+      commit = w .commit;
+      abort = w .abort;
+      willing = w .willing;
+      rows = w .rows;
     }
 
 unfoldable pub withRows : ℕ → World → World
 withRows k w =
-    record
-    { sites = w .sites
-    ; n = w .n
-    ; commit = w .commit
-    ; abort = w .abort
-    ; willing = w .willing
-    ; rows = k
+    record {
+      sites = w .sites;
+      n = w .n;
+      commit = w .commit;
+      abort = w .abort;
+      willing = w .willing;
+      rows = k;
     }

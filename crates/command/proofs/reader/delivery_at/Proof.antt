@@ -41,7 +41,8 @@ wide-requires-3 c κs = search needs
 
 returns : tie.Need-returns
 unfolding delivery
-returns c = cc
+returns c =
+    simp (c .before .before .before .before .wide .ensures .0, c .before .before .wide2 .ensures .0, c .wide3 .ensures .0)
 
 pub delivery-at-spec : {M : Type 1} → statement M
 delivery-at-spec =

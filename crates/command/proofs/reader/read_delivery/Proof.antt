@@ -25,7 +25,7 @@ returns c =
     simp (lt-leb _ _ cut, ← (c .refused .ensures))
 
 delivery-at-requires : tie.Need-delivery-at-requires
-delivery-at-requires c κs = search needs
+delivery-at-requires c κs = omega arith
 
 add-found : tie.Need-add-found
 add-found c = search needs

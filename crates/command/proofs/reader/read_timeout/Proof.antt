@@ -25,7 +25,7 @@ returns c =
     simp (lt-leb _ _ cut, ← (c .refused .ensures))
 
 target-at-requires : tie.Need-target-at-requires
-target-at-requires c κs = search needs
+target-at-requires c κs = omega arith
 
 add-found : tie.Need-add-found
 add-found c = search needs

@@ -17,7 +17,7 @@ wide-requires c κs = search needs
 
 returns : tie.Need-returns
 unfolding target
-returns c = cc
+returns c = simp (c .wide .ensures .0)
 
 pub target-at-spec : {M : Type 1} → statement M
 target-at-spec = tie.close (tie.spec add-wide shared-slice-read-wide wide-requires returns)

@@ -1,3 +1,9 @@
+use mathlib.Core.Path.{sym, _∙_}
+use Rattle.row.specs.KnownLaws.{known-sender}
+use Rattle.play.specs.Calls.{refuse}
+use Rattle.play.specs.Calls.{playedOf}
+use Rattle.site.specs.Rules.{deliver}
+use Rattle.play.specs.Commands.{deliverRow}
 use borrow.Author.Needs.{needs}
 use Rattle.play.proofs.commands.deliver_row.Statement.{statement}
 use Rattle.play.proofs.commands.deliver_row.Tie as tie
@@ -28,7 +34,7 @@ willing-at-requires c κs = search needs
 
 -- src/commands.rt:120:21
 deliver-requires : tie.Need-deliver-requires
-deliver-requires c κs = ?
+deliver-requires c κs = (search needs, search needs, known-sender (c .before .before .before .before .before .before .before .before .args .world .n) (c .before .before .before .before .before .before .before .before .args .row) (sym (c .before .before .before .before .before .before .row-known .ensures) ∙ c .before .before .before .before .before .if1 .taken))
 
 -- src/commands.rt:121:17
 enter-requires : tie.Need-enter-requires
@@ -40,19 +46,23 @@ same-length c = search needs
 
 -- src/commands.rt:121:17
 returns : tie.Need-returns
-returns c = ?
+unfolding deliverRow
+returns c = (simp (c .before .before .before .before .before .before .if3 .taken, c .before .before .before .before .before .before .before .before .if2 .taken, c .before .before .before .before .before .before .before .before .before .before .if1 .taken, ← (c .before .before .before .before .before .willing-at .ensures), ← (c .before .before .before .before .before .before .before .site .ensures), ← (c .before .before .before .before .before .before .before .before .before .has-bit .ensures), ← (c .before .before .before .before .before .before .before .before .before .before .before .row-known .ensures)) (rw (c .before .before .before .before .deliver .ensures) at (c .before .before .enter .ensures .0 ((deliver (c .before .before .before .before .before .before .before .before .before .before .before .before .before .args .own) (c .before .before .before .before .before .before .before .before .before .before .before .before .before .args .world .n) (c .before .before .before .before .before .willing-at .result) (c .before .before .before .before .before .before .before .before .before .before .before .before .before .args .row) (c .before .before .before .before .before .before .before .site .result)) .records))), simp (c .before .before .before .before .before .before .if3 .taken, c .before .before .before .before .before .before .before .before .if2 .taken, c .before .before .before .before .before .before .before .before .before .before .if1 .taken, ← (c .before .before .before .before .before .willing-at .ensures), ← (c .before .before .before .before .before .before .before .site .ensures), ← (c .before .before .before .before .before .before .before .before .before .has-bit .ensures), ← (c .before .before .before .before .before .before .before .before .before .before .before .row-known .ensures)) (rw (c .before .before .before .before .deliver .ensures) at (c .before .before .enter .ensures .1 ((deliver (c .before .before .before .before .before .before .before .before .before .before .before .before .before .args .own) (c .before .before .before .before .before .before .before .before .before .before .before .before .before .args .world .n) (c .before .before .before .before .before .willing-at .result) (c .before .before .before .before .before .before .before .before .before .before .before .before .before .args .row) (c .before .before .before .before .before .before .before .site .result)) .records))))
 
 -- src/commands.rt:123:13
 returns-2 : tie.Need-returns-2
-returns-2 c = ?
+unfolding deliverRow playedOf refuse
+returns-2 c = (simp (c .if3 .left, c .before .before .if2 .taken, c .before .before .before .before .if1 .taken, ← (c .before .site .ensures), ← (c .before .before .before .has-bit .ensures), ← (c .before .before .before .before .before .row-known .ensures)), simp (c .if3 .left, c .before .before .if2 .taken, c .before .before .before .before .if1 .taken, ← (c .before .site .ensures), ← (c .before .before .before .has-bit .ensures), ← (c .before .before .before .before .before .row-known .ensures)))
 
 -- src/commands.rt:129:9
 returns-3 : tie.Need-returns-3
-returns-3 c = ?
+unfolding deliverRow playedOf refuse
+returns-3 c = (simp (c .if2 .left, c .before .before .if1 .taken, ← (c .before .has-bit .ensures), ← (c .before .before .before .row-known .ensures)), simp (c .if2 .left, c .before .before .if1 .taken, ← (c .before .has-bit .ensures), ← (c .before .before .before .row-known .ensures)))
 
 -- src/commands.rt:111:1
 returns-4 : tie.Need-returns-4
-returns-4 c = ?
+unfolding deliverRow playedOf refuse
+returns-4 c = (simp (c .if1 .left, ← (c .before .row-known .ensures)), simp (c .if1 .left, ← (c .before .row-known .ensures)))
 
 pub deliver-row-spec : {M : Type 1} → statement M
 deliver-row-spec =

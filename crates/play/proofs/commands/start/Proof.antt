@@ -1,3 +1,7 @@
+use Rattle.play.specs.Calls.{refuse}
+use Rattle.play.specs.Calls.{playedOf}
+use Rattle.site.specs.Rules.{start}
+use Rattle.play.specs.Commands.{startCall}
 use borrow.Author.Needs.{needs}
 use Rattle.play.proofs.commands.start.Statement.{statement}
 use Rattle.play.proofs.commands.start.Tie as tie
@@ -40,15 +44,18 @@ same-length c = search needs
 
 -- src/commands.rt:21:13
 returns : tie.Need-returns
-returns c = ?
+unfolding startCall
+returns c = (simp (c .before .before .before .before .before .before .if2 .taken, c .before .before .before .before .before .before .before .before .before .if1 .taken, ← (c .before .before .before .before .before .willing-at .ensures), ← (c .before .before .before .before .before .before .before .is-active .ensures), ← (c .before .before .before .before .before .before .before .before .before .before .site .ensures), ← (c .before .before .before .before .before .before .before .before .state .ensures)) (rw (c .before .before .before .before .start .ensures) at (c .before .before .enter .ensures .0 ((start (c .before .before .before .before .before .before .before .before .before .before .before .before .args .world .n) (c .before .before .before .before .before .willing-at .result) (c .before .before .before .before .before .before .before .before .before .before .site .result)) .records))), simp (c .before .before .before .before .before .before .if2 .taken, c .before .before .before .before .before .before .before .before .before .if1 .taken, ← (c .before .before .before .before .before .willing-at .ensures), ← (c .before .before .before .before .before .before .before .is-active .ensures), ← (c .before .before .before .before .before .before .before .before .before .before .site .ensures), ← (c .before .before .before .before .before .before .before .before .state .ensures)) (rw (c .before .before .before .before .start .ensures) at (c .before .before .enter .ensures .1 ((start (c .before .before .before .before .before .before .before .before .before .before .before .before .args .world .n) (c .before .before .before .before .before .willing-at .result) (c .before .before .before .before .before .before .before .before .before .before .site .result)) .records))))
 
 -- src/commands.rt:23:9
 returns-2 : tie.Need-returns-2
-returns-2 c = ?
+unfolding startCall playedOf refuse
+returns-2 c = (simp (c .if2 .left, c .before .before .before .if1 .taken, ← (c .before .is-active .ensures), ← (c .before .before .before .before .site .ensures), ← (c .before .before .state .ensures)), simp (c .if2 .left, c .before .before .before .if1 .taken, ← (c .before .is-active .ensures), ← (c .before .before .before .before .site .ensures), ← (c .before .before .state .ensures)))
 
 -- src/commands.rt:12:1
 returns-3 : tie.Need-returns-3
-returns-3 c = ?
+unfolding startCall playedOf refuse
+returns-3 c = (simp (c .if1 .left, ← (c .before .site .ensures)), simp (c .if1 .left, ← (c .before .site .ensures)))
 
 pub start-spec : {M : Type 1} → statement M
 start-spec =

@@ -1,3 +1,9 @@
+use borrow.Author.Tests.{le-ltb}
+use Rattle.play.specs.Calls.{refuse}
+use Rattle.play.specs.Calls.{playedOf}
+use borrow.Author.Tests.{lt-ltb}
+use Rattle.site.specs.Rules.{timeout}
+use Rattle.play.specs.Commands.{timeoutCall}
 use borrow.Author.Needs.{needs}
 use Rattle.play.proofs.commands.timeout.Statement.{statement}
 use Rattle.play.proofs.commands.timeout.Tie as tie
@@ -25,15 +31,18 @@ same-length c = search needs
 
 -- src/commands.rt:47:13
 returns : tie.Need-returns
-returns c = ?
+unfolding timeoutCall
+returns c = (simp (c .before .before .before .before .before .before .before .if2 .taken, lt-ltb _ _ (c .before .before .before .before .before .before .before .before .before .if1 .taken), ← (c .before .before .before .before .before .before .before .before .site .ensures)) (rw (c .before .before .before .before .timeout .ensures) at (c .before .before .enter .ensures .0 ((timeout (c .before .before .before .before .before .before .before .before .before .before .before .before .args .own) (c .before .before .before .before .before .before .before .before .before .before .before .before .args .world .n) (c .before .before .before .before .before .before .before .before .before .before .before .before .args .world .commit) (c .before .before .before .before .before .before .before .before .before .before .before .before .args .world .abort) (c .before .before .before .before .before .before .before .before .site .result)) .records))), simp (c .before .before .before .before .before .before .before .if2 .taken, lt-ltb _ _ (c .before .before .before .before .before .before .before .before .before .if1 .taken), ← (c .before .before .before .before .before .before .before .before .site .ensures)) (rw (c .before .before .before .before .timeout .ensures) at (c .before .before .enter .ensures .1 ((timeout (c .before .before .before .before .before .before .before .before .before .before .before .before .args .own) (c .before .before .before .before .before .before .before .before .before .before .before .before .args .world .n) (c .before .before .before .before .before .before .before .before .before .before .before .before .args .world .commit) (c .before .before .before .before .before .before .before .before .before .before .before .before .args .world .abort) (c .before .before .before .before .before .before .before .before .site .result)) .records))))
 
 -- src/commands.rt:49:9
 returns-2 : tie.Need-returns-2
-returns-2 c = ?
+unfolding timeoutCall playedOf refuse
+returns-2 c = (simp (c .if2 .left, lt-ltb _ _ (c .before .before .if1 .taken), ← (c .before .site .ensures)), simp (c .if2 .left, lt-ltb _ _ (c .before .before .if1 .taken), ← (c .before .site .ensures)))
 
 -- src/commands.rt:36:1
 returns-3 : tie.Need-returns-3
-returns-3 c = ?
+unfolding timeoutCall playedOf refuse
+returns-3 c = (simp (le-ltb _ _ (c .if1 .left)), simp (le-ltb _ _ (c .if1 .left)))
 
 pub timeout-spec : {M : Type 1} → statement M
 timeout-spec =

@@ -1,3 +1,12 @@
+use borrow.Author.Tests.{le-ltb}
+use Rattle.play.specs.Calls.{refuse}
+use borrow.Author.Tests.{ne-eqb}
+use borrow.Author.Tests.{lt-ltb}
+use Rattle.play.specs.Calls.{enterRow}
+use borrow.Author.Tests.{eq-eqb}
+use Rattle.play.specs.Calls.{enterSilent}
+use Rattle.play.specs.Calls.{playedOf}
+use Rattle.play.specs.Calls.{enter}
 use borrow.Author.Needs.{needs}
 use Rattle.play.proofs.enter.enter.Statement.{statement}
 use Rattle.play.proofs.enter.enter.Tie as tie
@@ -13,7 +22,8 @@ put-site-requires c κs = search needs
 
 -- src/enter.rt:22:9
 returns : tie.Need-returns
-returns c = ?
+unfolding enter playedOf enterSilent
+returns c = (λ records. simp (eq-eqb _ _ (c .before .if1 .taken), c .put-site .ensures), λ records. simp (eq-eqb _ _ (c .before .if1 .taken)))
 
 -- src/enter.rt:29:9
 put-row-requires : tie.Need-put-row-requires
@@ -37,11 +47,13 @@ same-length c = search needs
 
 -- src/enter.rt:30:9
 returns-2 : tie.Need-returns-2
-returns-2 c = ?
+unfolding enter playedOf enterRow
+returns-2 c = (λ records. simp (lt-ltb _ _ (c .before .before .before .before .before .before .if2 .taken), ne-eqb _ _ (c .before .before .before .before .before .before .before .if1 .left), c .put-rows .ensures, c .before .put-site2 .ensures), λ records. simp (lt-ltb _ _ (c .before .before .before .before .before .before .if2 .taken), ne-eqb _ _ (c .before .before .before .before .before .before .before .if1 .left)) (c .before .before .before .before .put-row .ensures))
 
 -- src/enter.rt:13:1
 returns-3 : tie.Need-returns-3
-returns-3 c = ?
+unfolding enter playedOf refuse
+returns-3 c = (λ records. simp (le-ltb _ _ (c .if2 .left), ne-eqb _ _ (c .before .if1 .left)), λ records. simp (le-ltb _ _ (c .if2 .left), ne-eqb _ _ (c .before .if1 .left)))
 
 pub enter-spec : {M : Type 1} → statement M
 enter-spec =

@@ -1,3 +1,11 @@
+use mathlib.Core.Path.{sym, _∙_}
+use denote.Ref.{now}
+use Rattle.play.specs.CallLaws.{ready}
+use borrow.Author.Tests.{le-ltb}
+use borrow.Author.Tests.{lt-ltb}
+use Rattle.play.specs.Commands.{oneCommand}
+use Rattle.play.specs.Calls.{refuse}
+use Rattle.play.specs.Calls.{playedOf}
 use borrow.Author.Needs.{needs}
 use Rattle.play.proofs.perform.one_command.Statement.{statement}
 use Rattle.play.proofs.perform.one_command.Tie as tie
@@ -8,7 +16,8 @@ use Rattle.world.proofs.World.valid.Reads as valid-reads
 
 -- src/perform.rt:55:9
 returns : tie.Need-returns
-returns c = ?
+unfolding oneCommand playedOf refuse
+returns c = (simp (lt-ltb _ _ (c .if1 .taken)), simp (lt-ltb _ _ (c .if1 .taken)))
 
 -- src/perform.rt:61:8
 valid-requires : tie.Need-valid-requires
@@ -16,7 +25,7 @@ valid-requires c κs = search needs
 
 -- src/perform.rt:62:9
 play-command-requires : tie.Need-play-command-requires
-play-command-requires c κs = ?
+play-command-requires c κs = ready (c .before .before .before .before .before .before .args .world) (now (c .before .before .before .before .before .before .args .store)) (c .before .before .before .if1 .left) (sym (c .before .before .valid .ensures) ∙ c .before .if2 .taken)
 
 -- src/perform.rt:62:9
 same-length : tie.Need-same-length
@@ -24,11 +33,13 @@ same-length c = search needs
 
 -- src/perform.rt:62:9
 returns-2 : tie.Need-returns-2
-returns-2 c = ?
+unfolding oneCommand
+returns-2 c = (simp (c .before .before .before .before .if2 .taken, le-ltb _ _ (c .before .before .before .before .before .before .if1 .left), ← (c .before .before .before .before .before .valid .ensures)) (c .before .before .play-command .ensures .0), simp (c .before .before .before .before .if2 .taken, le-ltb _ _ (c .before .before .before .before .before .before .if1 .left), ← (c .before .before .before .before .before .valid .ensures)) (c .before .before .play-command .ensures .1))
 
 -- src/perform.rt:50:1
 returns-3 : tie.Need-returns-3
-returns-3 c = ?
+unfolding oneCommand playedOf refuse
+returns-3 c = (simp (c .if2 .left, le-ltb _ _ (c .before .before .if1 .left), ← (c .before .valid .ensures)), simp (c .if2 .left, le-ltb _ _ (c .before .before .if1 .left), ← (c .before .valid .ensures)))
 
 pub one-command-spec : {M : Type 1} → statement M
 one-command-spec =

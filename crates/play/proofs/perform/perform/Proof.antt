@@ -1,3 +1,4 @@
+use Rattle.play.specs.Commands.{perform}
 use borrow.Author.Needs.{needs}
 use Rattle.play.proofs.perform.perform.Statement.{statement}
 use Rattle.play.proofs.perform.perform.Tie as tie
@@ -55,7 +56,8 @@ same-length c = search needs
 
 -- src/perform.rt:16:1
 returns : tie.Need-returns
-returns c = ?
+unfolding perform
+returns c = (simp (c .before .before .before .before .enum-told .given .1) (c .before .before .start .ensures .0), simp (c .before .before .before .before .enum-told .given .1) (c .before .before .start .ensures .1))
 
 -- src/perform.rt:16:1
 same-length-2 : tie.Need-same-length-2
@@ -63,7 +65,8 @@ same-length-2 c = search needs
 
 -- src/perform.rt:16:1
 returns-2 : tie.Need-returns-2
-returns-2 c = ?
+unfolding perform
+returns-2 c = (simp (c .before .before .before .before .before .command .given .1) (c .before .before .deliver .ensures .0), simp (c .before .before .before .before .before .command .given .1) (c .before .before .deliver .ensures .1))
 
 -- src/perform.rt:16:1
 same-length-3 : tie.Need-same-length-3
@@ -71,7 +74,8 @@ same-length-3 c = search needs
 
 -- src/perform.rt:16:1
 returns-3 : tie.Need-returns-3
-returns-3 c = ?
+unfolding perform
+returns-3 c = (simp (c .before .before .before .before .before .command2 .given .1) (c .before .before .timeout .ensures .0), simp (c .before .before .before .before .before .command2 .given .1) (c .before .before .timeout .ensures .1))
 
 -- src/perform.rt:16:1
 same-length-4 : tie.Need-same-length-4
@@ -79,7 +83,8 @@ same-length-4 c = search needs
 
 -- src/perform.rt:16:1
 returns-4 : tie.Need-returns-4
-returns-4 c = ?
+unfolding perform
+returns-4 c = (simp (c .before .before .before .before .before .command3 .given .1) (c .before .before .crash .ensures .0), simp (c .before .before .before .before .before .command3 .given .1) (c .before .before .crash .ensures .1))
 
 -- src/perform.rt:16:1
 same-length-5 : tie.Need-same-length-5
@@ -87,7 +92,8 @@ same-length-5 c = search needs
 
 -- src/perform.rt:16:1
 returns-5 : tie.Need-returns-5
-returns-5 c = ?
+unfolding perform
+returns-5 c = (simp (c .before .before .before .before .before .command4 .given .1) (c .before .before .recover .ensures .0), simp (c .before .before .before .before .before .command4 .given .1) (c .before .before .recover .ensures .1))
 
 pub perform-spec : {M : Type 1} → statement M
 perform-spec =

@@ -1,3 +1,8 @@
+use Rattle.command.specs.Commands.{refusalOf}
+use Rattle.play.specs.Calls.{refuse}
+use Rattle.play.specs.Calls.{playedOf}
+use Rattle.play.specs.Commands.{performRead}
+use Rattle.play.specs.Commands.{playCommand}
 use borrow.Author.Needs.{needs}
 use Rattle.play.proofs.perform.play_command.Statement.{statement}
 use Rattle.play.proofs.perform.play_command.Tie as tie
@@ -25,7 +30,8 @@ refusal-of-requires c κs = search needs
 
 -- src/perform.rt:39:9
 returns : tie.Need-returns
-returns c = ?
+unfolding playCommand performRead playedOf refuse refusalOf
+returns c = (simp (c .refusal-of .ensures, ← (c .before .before .before .read-command .ensures), c .before .enum-told .given .1), simp (← (c .before .before .before .read-command .ensures), c .before .enum-told .given .1))
 
 -- src/perform.rt:46:5
 perform-requires : tie.Need-perform-requires
@@ -37,7 +43,8 @@ same-length c = search needs
 
 -- src/perform.rt:31:1
 returns-2 : tie.Need-returns-2
-returns-2 c = ?
+unfolding playCommand performRead
+returns-2 c = (simp (← (c .before .before .before .before .before .before .before .read-command .ensures), c .before .before .before .before .before .reading .given .1) (c .before .before .perform .ensures .0), simp (← (c .before .before .before .before .before .before .before .read-command .ensures), c .before .before .before .before .before .reading .given .1) (c .before .before .perform .ensures .1))
 
 pub play-command-spec : {M : Type 1} → statement M
 play-command-spec =

@@ -1,5 +1,4 @@
 use borrow.Author.Needs.{needs}
-use Rattle.choice.specs.Choice.{tests}
 use Rattle.world.proofs.World.valid_through.Statement.{statement}
 use Rattle.world.proofs.World.valid_through.Tie as tie
 use Rattle.world.proofs.World.valid_through.Reads as reads

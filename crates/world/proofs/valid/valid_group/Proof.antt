@@ -27,15 +27,15 @@ valid-own-requires-2 c κs = search needs
 
 returns : tie.Need-returns
 unfolding validGroup
-returns c = cc
+returns c = simp (c .before .enum-told .given .1) (c .valid-vector .ensures)
 
 returns-2 : tie.Need-returns-2
 unfolding validGroup
-returns-2 c = cc
+returns-2 c = simp (c .before .enum-told2 .given .1) (c .valid-own .ensures)
 
 returns-3 : tie.Need-returns-3
 unfolding validGroup
-returns-3 c = cc
+returns-3 c = simp (c .before .enum-told3 .given .1) (c .valid-own2 .ensures)
 
 pub valid-group-spec : {M : Type 1} → statement M
 valid-group-spec =

@@ -1,7 +1,0 @@
-// The report.
-
-// A report call's answer beside the buffer: number (0: accepted) and the text's length.
-pub struct Reported {
-    pub number: u8,
-    pub length: usize,
-}

@@ -1,1 +1,0 @@
-// Words and decimal numbers appended to a lent buffer.
