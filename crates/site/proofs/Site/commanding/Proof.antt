@@ -11,7 +11,7 @@ other-sites-requires c κs = search needs
 
 returns : tie.Need-returns
 unfolding commanding commandRow
-returns c = cc
+returns c = simp (c .other-sites .ensures)
 
 pub commanding-spec : {M : Type 1} → statement M
 commanding-spec = tie.close (tie.spec other-sites-requires returns)

@@ -27,7 +27,7 @@ silent-requires c κs = search needs
 
 returns : tie.Need-returns
 unfolding crash silent withUp withCoordinator withCodes
-returns c = cc
+returns c = simp (c .silent .ensures, c .before .kept-vector .ensures, c .before .before .before .code-of .ensures, c .before .before .before .before .state .ensures)
 
 pub crash-spec : {M : Type 1} → statement M
 crash-spec =

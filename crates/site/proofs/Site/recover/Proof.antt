@@ -12,7 +12,7 @@ silent-requires c κs = search needs
 
 returns : tie.Need-returns
 unfolding recover silent withUp
-returns c = cc
+returns c = c .silent .ensures
 
 pub recover-spec : {M : Type 1} → statement M
 recover-spec = tie.close (tie.spec silent-requires returns)

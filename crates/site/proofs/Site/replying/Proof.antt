@@ -11,7 +11,7 @@ only-site-requires c κs = search needs
 
 returns : tie.Need-returns
 unfolding replying replyRow
-returns c = cc
+returns c = simp (c .only-site .ensures)
 
 pub replying-spec : {M : Type 1} → statement M
 replying-spec = tie.close (tie.spec only-site-requires returns)

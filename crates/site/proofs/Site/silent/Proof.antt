@@ -11,7 +11,7 @@ no-row-requires c κs = search needs
 
 returns : tie.Need-returns
 unfolding silent
-returns c = cc
+returns c = simp (c .no-row .ensures)
 
 pub silent-spec : {M : Type 1} → statement M
 silent-spec = tie.close (tie.spec no-row-requires returns)

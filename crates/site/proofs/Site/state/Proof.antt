@@ -11,7 +11,7 @@ state-by-requires c κs = search needs
 
 returns : tie.Need-returns
 unfolding stateOf
-returns c = cc
+returns c = c .state-by .ensures
 
 pub state-spec : {M : Type 1} → statement M
 state-spec = tie.close (tie.spec state-by-requires returns)

@@ -12,7 +12,7 @@ commanding-requires c κs = search needs
 
 returns : tie.Need-returns
 unfolding takeOver commanding withCoordinator
-returns c = cc
+returns c = c .commanding .ensures
 
 pub take-over-spec : {M : Type 1} → statement M
 take-over-spec = tie.close (tie.spec commanding-requires returns)

@@ -52,7 +52,7 @@ take-over-requires c κs = search needs
 
 returns-4 : tie.Need-returns-4
 unfolding chooseGroup commanding joinGroup groupOf recordCode writeOutcome outcomeOf
-returns-4 c = cc
+returns-4 c = simp (c .before .if1 .left) (c .take-over .ensures)
 
 pub timeout-prepared-spec : {M : Type 1} → statement M
 timeout-prepared-spec =

@@ -17,15 +17,15 @@ enum-told-3 c = search needs
 
 returns : tie.Need-returns
 unfolding keptVector zeroVector
-returns c = cc
+returns c = simp (c .enum-told .given .1)
 
 returns-2 : tie.Need-returns-2
 unfolding keptVector zeroVector
-returns-2 c = cc
+returns-2 c = simp (c .enum-told2 .given .1)
 
 returns-3 : tie.Need-returns-3
 unfolding keptVector zeroVector
-returns-3 c = cc
+returns-3 c = simp (c .enum-told3 .given .1)
 
 pub kept-vector-spec : {M : Type 1} → statement M
 kept-vector-spec =
