@@ -10,13 +10,7 @@ use crate::Parsed;
 use crate::Reading;
 use crate::Refusal;
 use crate::Target;
-
-// A byte as a wider number.
-fn wide(byte: u8) -> usize
-    ensures { λ r. ⌜ (r ≡ byte) × (r < 256) ⌝ }
-{
-    byte as usize
-}
+use word::wide;
 
 // A command, and the place after its operands.
 fn found(command: Command, next: usize) -> Reading

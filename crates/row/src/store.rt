@@ -4,6 +4,7 @@ ghost use Prim.Native.Nat.{_+_, _<_, _≤_};
 ghost use lib.ListN.{length};
 ghost use Rattle.row.specs.Rows.{noRow, putHead, putCodes, putRow, getRow, rowPlace, codesFrom};
 use crate::Row;
+use word::wide;
 
 pub fn no_row() -> Row
     ensures { λ r. ⌜ r ≡ noRow ⌝ }
@@ -22,13 +23,6 @@ fn row_place(k: usize) -> usize
     ensures { λ r. ⌜ r ≡ rowPlace k ⌝ }
 {
     20 * k
-}
-
-// A byte as a wider number.
-fn wide(byte: u8) -> usize
-    ensures { λ r. ⌜ (r ≡ byte) × (r < 256) ⌝ }
-{
-    byte as usize
 }
 
 fn put_head(store: &mut [u8], at: usize, row: Row)

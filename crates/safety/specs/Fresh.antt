@@ -50,7 +50,7 @@ unfolding freshSites downSites
 fresh-length zero = length-replicate 16 (blankSite false)
 fresh-length (suc k) = length-set (freshSites k) k (blankSite true) ∙ fresh-length k
 
-fresh-blank : (P : Site → Type 0) → P (blankSite true) → P (blankSite false) → (k j : ℕ) → k ≤ 16 → j < 16 →
+pub fresh-blank : (P : Site → Type 0) → P (blankSite true) → P (blankSite false) → (k j : ℕ) → k ≤ 16 → j < 16 →
     P (getD (freshSites k) j (blankSite false))
 unfolding freshSites downSites
 fresh-blank P up down zero j few less = rw (getD-replicate 16 j (blankSite false) (blankSite false)) down

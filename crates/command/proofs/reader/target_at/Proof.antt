@@ -4,7 +4,7 @@ use Rattle.command.proofs.reader.target_at.Statement.{statement}
 use Rattle.command.proofs.reader.target_at.Tie as tie
 use Rattle.command.proofs.reader.target_at.Reads as reads
 use Rattle.command.proofs.reader.target_at.Lts as lts
-use Rattle.command.proofs.reader.wide.Reads as wide-reads
+use Rattle.word.proofs.wide.Reads as wide-reads
 
 add-wide : tie.Need-add-wide
 add-wide c = search needs

@@ -7,7 +7,7 @@ use Rattle.row.proofs.store.get_row.Reads as reads
 use Rattle.row.proofs.store.get_row.Lts as lts
 use Rattle.row.proofs.store.get_codes.Reads as get-codes-reads
 use Rattle.row.proofs.store.row_place.Reads as row-place-reads
-use Rattle.row.proofs.store.wide.Reads as wide-reads
+use Rattle.word.proofs.wide.Reads as wide-reads
 
 row-place-requires : tie.Need-row-place-requires
 row-place-requires c κs = search needs

@@ -1,0 +1,70 @@
+// Playing a whole list.
+ghost use mathlib.Core.Path.{_≡_};
+ghost use Prim.Native.Nat.{_≤_};
+ghost use lib.ListN.{length};
+ghost use Rattle.world.specs.Worlds.{zeroWorld};
+ghost use Rattle.list.specs.Play.{headerNumber, headerWorld, playList};
+use crate::ListPlayed;
+use crate::headers::header_number;
+use crate::headers::read_header;
+use world::World;
+
+// The commands from the header's fresh world on. 17 is not asked again: it never arises.
+fn play_commands(fresh: World, store: &mut [u8], list: &[u8]) -> ListPlayed
+    requires { ⌜ (fresh ≡ headerWorld (now list)) × (headerNumber (now list) ≡ 0) × (20480 ≤ length (now store)) ⌝ }
+    ensures played { λ r. ⌜ r ≡ (playList (now (store .entry)) (now (list .entry))) .played ⌝ }
+    ensures stored { λ r. ⌜ now (store .exit) ≡ (playList (now (store .entry)) (now (list .entry))) .store ⌝ }
+{
+    let mut world = fresh;
+    let mut at = 5;
+    let mut events = 0;
+    while at < list.len() {
+        let step = play::play_command(world, store, list, at);
+        if step.number != 0 {
+            return ListPlayed {
+                number: step.number,
+                world,
+                events,
+                place: at,
+            };
+        }
+        world = step.world;
+        at = step.place;
+        events += 1;
+    }
+    ListPlayed {
+        number: 0,
+        world,
+        events,
+        place: at,
+    }
+}
+
+// Refused at its store, length or header: the world of zeros, no events, place 0.
+fn refused_list(number: u8) -> ListPlayed
+    ensures { λ r. ⌜ r ≡ record { number = number; world = zeroWorld; events = 0; place = 0 } ⌝ }
+{
+    ListPlayed {
+        number,
+        world: World::zero(),
+        events: 0,
+        place: 0,
+    }
+}
+
+// A whole list: any bytes, any length, any store.
+pub fn play_list(store: &mut [u8], list: &[u8]) -> ListPlayed
+    ensures played { λ r. ⌜ r ≡ (playList (now (store .entry)) (now (list .entry))) .played ⌝ }
+    ensures stored { λ r. ⌜ now (store .exit) ≡ (playList (now (store .entry)) (now (list .entry))) .store ⌝ }
+{
+    if store.len() < World::STORE_BYTES {
+        return refused_list(16);
+    }
+    let number = header_number(list);
+    if number != 0 {
+        return refused_list(number);
+    }
+    let header = read_header(list);
+    let fresh = World::fresh(header.n, header.commit, header.abort, header.willing);
+    play_commands(fresh, store, list)
+}

@@ -1,0 +1,5 @@
+pub mod Lines
+pub mod Report
+pub mod LineLaws
+pub mod ReportLaws
+pub mod LengthLaws

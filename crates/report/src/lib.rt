@@ -1,0 +1,13 @@
+// The report.
+mod lines;
+mod log;
+mod words;
+mod write;
+
+pub use write::write_report;
+
+// A report call's answer beside the buffer: number (0: accepted) and the text's length.
+pub struct Reported {
+    pub number: u8,
+    pub length: usize,
+}
