@@ -4,6 +4,7 @@ mod log;
 mod words;
 mod write;
 
+pub use lines::put_last;
 pub use write::write_report;
 
 // A report call's answer beside the buffer: number (0: accepted) and the text's length.

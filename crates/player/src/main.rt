@@ -1,0 +1,16 @@
+// Plays a list from standard input and prints its report.
+mod show;
+
+use libc::STDIN_FILENO;
+use libc::STDOUT_FILENO;
+
+// One byte more than a list may have is read, so that a list that is too long is noticed.
+fn main() {
+    let mut input = [0u8; 32769];
+    let mut store = [0u8; 20480];
+    let mut text = [0u8; 1024];
+    let n = io::read_full(STDIN_FILENO, &mut input);
+    let played = list::play_list(&mut store, &input[..n]);
+    let k = show::show(played, &mut text);
+    io::write_all(STDOUT_FILENO, &text[..k]);
+}
