@@ -1,8 +1,12 @@
 // The command reader.
 mod reader;
+mod view;
 
-pub use reader::read_command;
 pub use reader::refusal_of;
+pub use view::View;
+pub use view::command_in;
+pub use view::look_at;
+pub use view::read_command;
 
 pub struct Delivery {
     pub row: usize,

@@ -109,7 +109,7 @@ fn read_byte(byte: u8, list: &[u8], at: usize) -> Reading
 }
 
 // The command at a place of a list.
-pub fn read_command(list: &[u8], at: usize) -> Reading
+pub fn read_at(list: &[u8], at: usize) -> Reading
     ensures { λ r. ⌜ r ≡ readCommand (now (list .entry)) at ⌝ }
 {
     if at < list.len() {

@@ -1,10 +1,10 @@
 use borrow.Author.Needs.{needs}
 use Rattle.choice.specs.Choice.{tests}
 use Rattle.command.specs.Commands.{readCommand}
-use Rattle.command.proofs.reader.read_command.Statement.{statement}
-use Rattle.command.proofs.reader.read_command.Tie as tie
-use Rattle.command.proofs.reader.read_command.Reads as reads
-use Rattle.command.proofs.reader.read_command.Lts as lts
+use Rattle.command.proofs.reader.read_at.Statement.{statement}
+use Rattle.command.proofs.reader.read_at.Tie as tie
+use Rattle.command.proofs.reader.read_at.Reads as reads
+use Rattle.command.proofs.reader.read_at.Lts as lts
 use Rattle.command.proofs.reader.read_byte.Reads as read-byte-reads
 use Rattle.command.proofs.reader.refused.Reads as refused-reads
 
@@ -25,7 +25,7 @@ returns-2 : tie.Need-returns-2
 unfolding readCommand
 returns-2 c = search (tests, needs)
 
-pub read-command-spec : {M : Type 1} → statement M
-read-command-spec =
+pub read-at-spec : {M : Type 1} → statement M
+read-at-spec =
     tie.close
     (tie.spec shared-slice-read-read-byte read-byte-requires returns refused-requires returns-2)
