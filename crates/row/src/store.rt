@@ -35,7 +35,8 @@ fn put_head(store: &mut [u8], at: usize, row: Row)
     store[at + 3] = (row.destinations / 256 % 256) as u8;
 }
 
-fn put_codes(store: &mut [u8], at: usize, codes: [u8; 16])
+// Sixteen codes written from a place on.
+pub fn put_codes(store: &mut [u8], at: usize, codes: [u8; 16])
     requires { ⌜ at + 16 ≤ length (now store) ⌝ }
     ensures { λ _. ⌜ now (store .exit) ≡ putCodes 16 (now (store .entry)) at codes ⌝ }
 {
@@ -57,7 +58,8 @@ pub fn put_row(store: &mut [u8], k: usize, row: Row)
     put_codes(store, at + 4, codes);
 }
 
-fn get_codes(store: &[u8], at: usize) -> [u8; 16]
+// Sixteen codes read from a place on.
+pub fn get_codes(store: &[u8], at: usize) -> [u8; 16]
     requires { ⌜ at + 16 ≤ length (now store) ⌝ }
     ensures { λ r. ⌜ r ≡ codesFrom 16 (now (store .entry)) at ⌝ }
 {

@@ -1,0 +1,123 @@
+// A case's line, and the ways in which a case is played.
+ghost use Prim.Native.Nat.{_<_};
+use list::ListPlayed;
+use play::Played;
+use site::Site;
+use word::wide;
+use world::World;
+
+// The name, and ok or not.
+pub fn verdict(name: &[u8], ok: bool) {
+    io::write_all(1, name);
+    if ok {
+        io::write_all(1, b" ok\n");
+        return;
+    }
+    io::write_all(1, b" differs\n");
+}
+
+// The name, and ok or the number that came instead.
+pub fn compare(name: &[u8], got: u8, expected: u8) {
+    io::write_all(1, name);
+    if got == expected {
+        io::write_all(1, b" ok\n");
+        return;
+    }
+    io::write_all(1, b" got ");
+    io::print_decimal(1, wide(got) as u64);
+    io::write_all(1, b"\n");
+}
+
+// Number, accepted events and place of a whole list.
+fn stands(played: ListPlayed, number: u8, events: usize, place: usize) -> bool {
+    if played.number != number {
+        return false;
+    }
+    if played.events != events {
+        return false;
+    }
+    played.place == place
+}
+
+// A whole list, in a store of the least length.
+pub fn list(name: &[u8], list: &[u8], number: u8, events: usize, place: usize) {
+    let mut store = [0; 20480];
+    let played = list::play_list(&mut store, list);
+    if stands(played, number, events, place) {
+        verdict(name, true);
+        return;
+    }
+    io::write_all(1, name);
+    io::write_all(1, b" got ");
+    io::print_decimal(1, wide(played.number) as u64);
+    io::write_all(1, b" after ");
+    io::print_decimal(1, played.events as u64);
+    io::write_all(1, b" at ");
+    io::print_decimal(1, played.place as u64);
+    io::write_all(1, b"\n");
+}
+
+// Number and place of one command.
+pub fn told(name: &[u8], played: Played, number: u8, place: usize) {
+    if played.place == place {
+        compare(name, played.number, number);
+        return;
+    }
+    io::write_all(1, name);
+    io::write_all(1, b" place ");
+    io::print_decimal(1, played.place as u64);
+    io::write_all(1, b"\n");
+}
+
+// One command in a world, with a store of noughts.
+pub fn command(name: &[u8], world: World, list: &[u8], at: usize, number: u8, place: usize) {
+    let mut store = [0; 20480];
+    let played = play::one_command(world, &mut store, list, at);
+    told(name, played, number, place);
+}
+
+// The report's text is the expected one.
+fn reported(played: ListPlayed, expected: &[u8]) -> bool {
+    let size = expected.len();
+    if 1024 < size {
+        return false;
+    }
+    let mut want = [0; 1024];
+    text::put_word(&mut want, 0, expected);
+    let mut got = [0; 1024];
+    let world = played.world;
+    let report = report::write_report(world, played.events, played.number, played.place, &mut got);
+    if report.number != 0 {
+        return false;
+    }
+    if report.length != size {
+        return false;
+    }
+    check::same(&got, &want)
+}
+
+// A whole list and its whole report.
+pub fn day(name: &[u8], list: &[u8], expected: &[u8]) {
+    let mut store = [0; 20480];
+    let played = list::play_list(&mut store, list);
+    verdict(name, reported(played, expected));
+}
+
+// A byte stored, if it is in the buffer.
+pub fn set(buffer: &mut [u8], at: usize, byte: u8) {
+    if at < buffer.len() {
+        buffer[at] = byte;
+    }
+}
+
+// Three sites, C = A = 2, all willing.
+pub fn fresh() -> World {
+    World::fresh(3, 2, 2, 7)
+}
+
+// A site of the three is down.
+pub fn down(i: usize) -> World
+    requires { ⌜ i < 16 ⌝ }
+{
+    fresh().put_site(i, Site::blank(false))
+}

@@ -1,0 +1,259 @@
+-- THE DAYS AT THREE CLUBS marked M in document 01, "Days at three clubs": each list of bytes, and what playing it is to show.
+-- Written from the paper. n = 3, C = A = 2, all willing (bits 7) unless said. A report's site line is: number, up or down, role,
+-- state, log, n codes. A row is: kind, sender, destinations, codes.
+use Prim.Native.Nat.{ℕ}
+use mathlib.Core.List.{List, [], _∷_, _++_}
+use Rattle.site.specs.Records.{wrote, prepareRecord, groupRecord, outcomeRecord, abort}
+use Rattle.day_table.specs.Shown.{START, DELIVER, TIMEOUT, CRASH, RECOVER, three, Sent, prepare, vote, joinAbort, inGroup, outcome, lines, Shown}
+
+pub record Day : Type 0 where
+  pub list : List ℕ
+  pub expected : Shown
+
+-- M1 header only: accepted, 0 events, all active
+unfoldable pub M1 : Day
+M1 =
+    record {
+      list = three 7;
+      expected =
+          record {
+            number = 0;
+            place = 5;
+            events = 0;
+            rows = [];
+            records = [];
+            report =
+                lines
+                ("sites 3 commit 2 abort 2 events 0 rows 0"
+                ∷ "0 up subordinate active --- 000"
+                ∷ "1 up subordinate active --- 000"
+                ∷ "2 up subordinate active --- 000"
+                ∷ "end 5"
+                ∷ []);
+          };
+    }
+
+-- M2 START: site 0 `P--`, row 0 to sites 1 and 2
+unfoldable pub M2 : Day
+M2 =
+    record {
+      list = three 7 ++ START;
+      expected =
+          record {
+            number = 0;
+            place = 6;
+            events = 1;
+            rows = prepare 0 (1 ∷ 2 ∷ []) "100" ∷ [];
+            records = wrote 0 prepareRecord ∷ [];
+            report =
+                lines
+                ("sites 3 commit 2 abort 2 events 1 rows 1"
+                ∷ "0 up coordinator prepared P-- 100"
+                ∷ "1 up subordinate active --- 000"
+                ∷ "2 up subordinate active --- 000"
+                ∷ "end 6"
+                ∷ []);
+          };
+    }
+
+-- M3 the report of document 01, "The report". The input there, in hex: 03 02 02 07 00 01 02 00 00 01 02 01 00 00 03 00 02 02 00 02 02
+-- 03 00 00 03 00 (START, row 0 to site 1, row 1 to site 0, TIMEOUT 0, row 2 to site 2, row 3 to site 0, TIMEOUT 0)
+unfoldable pub M3 : Day
+M3 =
+    record {
+      list =
+          3 ∷ 2 ∷ 2 ∷ 7 ∷ 0 ∷ 1 ∷ 2 ∷ 0 ∷ 0 ∷ 1 ∷ 2 ∷ 1 ∷ 0 ∷ 0 ∷ 3 ∷ 0 ∷ 2 ∷ 2 ∷ 0 ∷ 2 ∷ 2 ∷ 3 ∷ 0 ∷ 0 ∷ 3 ∷ 0 ∷ [];
+      expected =
+          record {
+            number = 0;
+            place = 26;
+            events = 7;
+            rows =
+                prepare 0 (1 ∷ 2 ∷ []) "100"
+                ∷ vote 1 (0 ∷ []) "110"
+                ∷ joinAbort 0 (1 ∷ 2 ∷ []) "310"
+                ∷ inGroup 2 (0 ∷ []) "313"
+                ∷ outcome 0 (1 ∷ 2 ∷ []) "513"
+                ∷ [];
+            records =
+                wrote 0 prepareRecord
+                ∷ wrote 1 prepareRecord
+                ∷ wrote 0 (groupRecord abort)
+                ∷ wrote 2 (groupRecord abort)
+                ∷ wrote 0 (outcomeRecord abort)
+                ∷ [];
+            report =
+                lines
+                ("sites 3 commit 2 abort 2 events 7 rows 5"
+                ∷ "0 up coordinator aborted PAa 513"
+                ∷ "1 up subordinate prepared P-- 110"
+                ∷ "2 up subordinate abort-group -A- 313"
+                ∷ "end 26"
+                ∷ []);
+          };
+    }
+
+-- M4 willing bits 5: START, row 0 to site 1 (log `--a`, codes 150), row 1 to site 0: `P-a`, codes 550
+unfoldable pub M4 : Day
+M4 =
+    record {
+      list = three 5 ++ START ++ DELIVER 0 1 ++ DELIVER 1 0;
+      expected =
+          record {
+            number = 0;
+            place = 14;
+            events = 3;
+            rows = prepare 0 (1 ∷ 2 ∷ []) "100" ∷ vote 1 (0 ∷ []) "150" ∷ [];
+            records = wrote 0 prepareRecord ∷ wrote 1 (outcomeRecord abort) ∷ wrote 0 (outcomeRecord abort) ∷ [];
+            report =
+                lines
+                ("sites 3 commit 2 abort 2 events 3 rows 2"
+                ∷ "0 up coordinator aborted P-a 550"
+                ∷ "1 up subordinate aborted --a 150"
+                ∷ "2 up subordinate active --- 000"
+                ∷ "end 14"
+                ∷ []);
+          };
+    }
+
+-- M5 START, CRASH 0, RECOVER 0, TIMEOUT 0: coordinator, codes 100, row 1 is prepare again
+unfoldable pub M5 : Day
+M5 =
+    record {
+      list = three 7 ++ START ++ CRASH 0 ++ RECOVER 0 ++ TIMEOUT 0;
+      expected =
+          record {
+            number = 0;
+            place = 12;
+            events = 4;
+            rows = prepare 0 (1 ∷ 2 ∷ []) "100" ∷ prepare 0 (1 ∷ 2 ∷ []) "100" ∷ [];
+            records = wrote 0 prepareRecord ∷ [];
+            report =
+                lines
+                ("sites 3 commit 2 abort 2 events 4 rows 2"
+                ∷ "0 up coordinator prepared P-- 100"
+                ∷ "1 up subordinate active --- 000"
+                ∷ "2 up subordinate active --- 000"
+                ∷ "end 12"
+                ∷ []);
+          };
+    }
+
+-- M6 START, row 0 twice to site 1: one P, two votes
+unfoldable pub M6 : Day
+M6 =
+    record {
+      list = three 7 ++ START ++ DELIVER 0 1 ++ DELIVER 0 1;
+      expected =
+          record {
+            number = 0;
+            place = 14;
+            events = 3;
+            rows = prepare 0 (1 ∷ 2 ∷ []) "100" ∷ vote 1 (0 ∷ []) "110" ∷ vote 1 (0 ∷ []) "110" ∷ [];
+            records = wrote 0 prepareRecord ∷ wrote 1 prepareRecord ∷ [];
+            report =
+                lines
+                ("sites 3 commit 2 abort 2 events 3 rows 3"
+                ∷ "0 up coordinator prepared P-- 100"
+                ∷ "1 up subordinate prepared P-- 110"
+                ∷ "2 up subordinate active --- 000"
+                ∷ "end 14"
+                ∷ []);
+          };
+    }
+
+-- M7 TIMEOUT 2 at once: `--a`, no row
+unfoldable pub M7 : Day
+M7 =
+    record {
+      list = three 7 ++ TIMEOUT 2;
+      expected =
+          record {
+            number = 0;
+            place = 7;
+            events = 1;
+            rows = [];
+            records = wrote 2 (outcomeRecord abort) ∷ [];
+            report =
+                lines
+                ("sites 3 commit 2 abort 2 events 1 rows 0"
+                ∷ "0 up subordinate active --- 000"
+                ∷ "1 up subordinate active --- 000"
+                ∷ "2 up subordinate aborted --a 005"
+                ∷ "end 7"
+                ∷ []);
+          };
+    }
+
+-- M8 START twice: 14
+unfoldable pub M8 : Day
+M8 =
+    record {
+      list = three 7 ++ START ++ START;
+      expected =
+          record {
+            number = 14;
+            place = 6;
+            events = 1;
+            rows = prepare 0 (1 ∷ 2 ∷ []) "100" ∷ [];
+            records = wrote 0 prepareRecord ∷ [];
+            report =
+                lines
+                ("sites 3 commit 2 abort 2 events 1 rows 1"
+                ∷ "0 up coordinator prepared P-- 100"
+                ∷ "1 up subordinate active --- 000"
+                ∷ "2 up subordinate active --- 000"
+                ∷ "refused 14 at 6"
+                ∷ []);
+          };
+    }
+
+-- M9 row 0 delivered to site 0 after START: 11
+unfoldable pub M9 : Day
+M9 =
+    record {
+      list = three 7 ++ START ++ DELIVER 0 0;
+      expected =
+          record {
+            number = 11;
+            place = 6;
+            events = 1;
+            rows = prepare 0 (1 ∷ 2 ∷ []) "100" ∷ [];
+            records = wrote 0 prepareRecord ∷ [];
+            report =
+                lines
+                ("sites 3 commit 2 abort 2 events 1 rows 1"
+                ∷ "0 up coordinator prepared P-- 100"
+                ∷ "1 up subordinate active --- 000"
+                ∷ "2 up subordinate active --- 000"
+                ∷ "refused 11 at 6"
+                ∷ []);
+          };
+    }
+
+-- M10 RECOVER 1 at once: 13
+unfoldable pub M10 : Day
+M10 =
+    record {
+      list = three 7 ++ RECOVER 1;
+      expected =
+          record {
+            number = 13;
+            place = 5;
+            events = 0;
+            rows = [];
+            records = [];
+            report =
+                lines
+                ("sites 3 commit 2 abort 2 events 0 rows 0"
+                ∷ "0 up subordinate active --- 000"
+                ∷ "1 up subordinate active --- 000"
+                ∷ "2 up subordinate active --- 000"
+                ∷ "refused 13 at 5"
+                ∷ []);
+          };
+    }
+
+-- THE TABLE
+unfoldable pub days : List Day
+days = M1 ∷ M2 ∷ M3 ∷ M4 ∷ M5 ∷ M6 ∷ M7 ∷ M8 ∷ M9 ∷ M10 ∷ []

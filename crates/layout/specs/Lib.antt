@@ -1,0 +1,5 @@
+pub mod Numbers
+pub mod NumberLaws
+pub mod Layout
+pub mod SiteLaws
+pub mod LayoutLaws

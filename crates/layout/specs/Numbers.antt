@@ -1,0 +1,18 @@
+-- Numbers in bytes, low byte first.
+use Prim.Native.Nat.{ℕ, zero, suc, _+_, _*_, _/_, _%_}
+use mathlib.Core.List.{List}
+use lib.ListN.{getD, set}
+
+-- a number without its k low bytes
+unfoldable pub shifted : ℕ → ℕ → ℕ
+shifted zero x = x
+shifted (suc k) x = shifted k x / 256
+
+-- the k low bytes of a number written from a place on
+unfoldable pub putNumber : ℕ → List ℕ → ℕ → ℕ → List ℕ
+putNumber zero bytes at x = bytes
+putNumber (suc k) bytes at x = set (putNumber k bytes at x) (at + k) (shifted k x % 256)
+
+-- the 16 bits at a place
+unfoldable pub wordAt : List ℕ → ℕ → ℕ
+wordAt bytes at = getD bytes at 0 + 256 * getD bytes (at + 1) 0

@@ -1,0 +1,107 @@
+//! The proved library's C functions, behind safe ones. Nothing but this file
+//! is unsafe, and only the bench and the comparison take it in.
+
+#![allow(unsafe_code)]
+
+use model::calls::{Calls, Numbers};
+
+#[link(name = "capi", kind = "static")]
+extern "C" {
+    fn qc_play_list(
+        list: *const u8,
+        list_len: usize,
+        store: *mut u8,
+        store_len: usize,
+        world: *mut u8,
+        world_len: usize,
+        result: *mut u8,
+        result_len: usize,
+    ) -> u32;
+
+    fn qc_play_command(
+        world: *mut u8,
+        world_len: usize,
+        store: *mut u8,
+        store_len: usize,
+        list: *const u8,
+        list_len: usize,
+        at: usize,
+        result: *mut u8,
+        result_len: usize,
+    ) -> u32;
+
+    fn qc_report(
+        world: *const u8,
+        world_len: usize,
+        events: usize,
+        number: u32,
+        place: usize,
+        buffer: *mut u8,
+        buffer_len: usize,
+        result: *mut u8,
+        result_len: usize,
+    ) -> u32;
+}
+
+/// The proved library. Its functions ask nothing of their arguments.
+pub struct Library;
+
+impl Calls for Library {
+    fn play_list(&self, list: &[u8], store: &mut [u8], world: &mut [u8], result: &mut [u8]) -> u32 {
+        // SAFETY: each pointer goes with its slice's length, and the borrows
+        // keep the slices alive and apart for the call.
+        unsafe {
+            qc_play_list(
+                list.as_ptr(),
+                list.len(),
+                store.as_mut_ptr(),
+                store.len(),
+                world.as_mut_ptr(),
+                world.len(),
+                result.as_mut_ptr(),
+                result.len(),
+            )
+        }
+    }
+
+    fn play_command(
+        &self,
+        world: &mut [u8],
+        store: &mut [u8],
+        list: &[u8],
+        at: usize,
+        result: &mut [u8],
+    ) -> u32 {
+        // SAFETY: as above.
+        unsafe {
+            qc_play_command(
+                world.as_mut_ptr(),
+                world.len(),
+                store.as_mut_ptr(),
+                store.len(),
+                list.as_ptr(),
+                list.len(),
+                at,
+                result.as_mut_ptr(),
+                result.len(),
+            )
+        }
+    }
+
+    fn report(&self, world: &[u8], numbers: Numbers, buffer: &mut [u8], result: &mut [u8]) -> u32 {
+        // SAFETY: as above.
+        unsafe {
+            qc_report(
+                world.as_ptr(),
+                world.len(),
+                numbers.events,
+                numbers.stop,
+                numbers.place,
+                buffer.as_mut_ptr(),
+                buffer.len(),
+                result.as_mut_ptr(),
+                result.len(),
+            )
+        }
+    }
+}

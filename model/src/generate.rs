@@ -1,0 +1,228 @@
+//! Lists and calls for comparing players, the same ones for the same seed.
+
+mod call;
+mod guide;
+mod rng;
+mod spoil;
+
+pub use call::Call;
+pub use rng::Rng;
+
+use crate::command::Command;
+use crate::play::HEADER_BYTES;
+use crate::world::{everyone, MAX_LIST, MAX_SITES, MIN_SITES};
+use guide::Guide;
+
+/// A source of lists.
+pub struct Generator {
+    rng: Rng,
+    /// Guided lists and duels get no longer than this, but for a last command
+    /// that is refused.
+    most: usize,
+}
+
+impl Generator {
+    pub fn new(seed: u64) -> Generator {
+        Generator::up_to(seed, MAX_LIST)
+    }
+
+    /// One whose lists stay short; quiet days and lists that are too long keep
+    /// their length.
+    pub fn up_to(seed: u64, most: usize) -> Generator {
+        Generator {
+            rng: Rng::new(seed),
+            most: most.clamp(HEADER_BYTES, MAX_LIST),
+        }
+    }
+
+    /// A list of any sort, guided ones most often.
+    pub fn next_list(&mut self) -> Vec<u8> {
+        match self.rng.below(100) {
+            0..=54 => self.next_guided(),
+            55..=63 => self.next_random(),
+            64..=79 => self.next_damaged(),
+            80..=92 => self.next_truncated(),
+            93..=96 => self.next_quiet(),
+            97..=98 => self.next_duel(),
+            _ => self.next_too_long(),
+        }
+    }
+
+    /// A list whose commands are accepted, but for the last one at times.
+    pub fn next_guided(&mut self) -> Vec<u8> {
+        let (n, c, a) = sizes(&mut self.rng);
+        let willing = willing(&mut self.rng, n);
+        let limit = length(&mut self.rng).min(self.most);
+        let mut guide = Guide::new(n, c, a, willing, limit);
+        guide.wander(&mut self.rng);
+        if self.rng.chance(60) {
+            spoil::spoil(&mut guide, &mut self.rng);
+        }
+        guide.list
+    }
+
+    /// Bytes that follow no world: no header, a good header, or a good header
+    /// and small bytes.
+    pub fn next_random(&mut self) -> Vec<u8> {
+        let rng = &mut self.rng;
+        let most = rng.choose(&[8, 40, 400]);
+        let size = rng.below(most);
+        match rng.below(3) {
+            0 => rng.bytes(size),
+            1 => [random_header(rng), rng.bytes(size)].concat(),
+            _ => {
+                let small = (0..size).map(|_| rng.below(6) as u8).collect();
+                [random_header(rng), small].concat()
+            }
+        }
+    }
+
+    /// A guided list with one byte changed, in the header one time in four.
+    pub fn next_damaged(&mut self) -> Vec<u8> {
+        let mut list = self.next_guided();
+        let reach = if self.rng.chance(25) {
+            HEADER_BYTES
+        } else {
+            list.len()
+        };
+        let place = self.rng.below(reach);
+        list[place] = self.other_byte(list[place]);
+        list
+    }
+
+    /// A guided list cut somewhere, in the header at times.
+    pub fn next_truncated(&mut self) -> Vec<u8> {
+        let mut list = self.next_guided();
+        let reach = if self.rng.chance(10) {
+            HEADER_BYTES
+        } else {
+            list.len()
+        };
+        list.truncate(self.rng.below(reach));
+        list
+    }
+
+    /// A quiet day of any sizes.
+    pub fn next_quiet(&mut self) -> Vec<u8> {
+        let (n, c, a) = sizes(&mut self.rng);
+        quiet_day(n as u8, c as u8, a as u8)
+    }
+
+    /// A duel of any size.
+    pub fn next_duel(&mut self) -> Vec<u8> {
+        let n = self.rng.between(MIN_SITES, MAX_SITES);
+        let bytes = self.rng.between(HEADER_BYTES, self.most);
+        duel(n as u8, self.rng.draw(), bytes)
+    }
+
+    /// A duel with more bytes after it than a list can have.
+    pub fn next_too_long(&mut self) -> Vec<u8> {
+        let n = self.rng.between(MIN_SITES, MAX_SITES);
+        let mut list = duel(n as u8, self.rng.draw(), self.most.min(2_000));
+        let size = MAX_LIST + self.rng.between(1, 300);
+        list.resize(size, 4);
+        list
+    }
+
+    /// A one-command call: a world reached or merely thinkable, at times with
+    /// damage to the world or the store.
+    pub fn next_call(&mut self) -> Call {
+        call::any(&mut self.rng)
+    }
+
+    /// A byte that differs from this one: near it, by a bit, or anything.
+    fn other_byte(&mut self, byte: u8) -> u8 {
+        match self.rng.below(3) {
+            0 => byte.wrapping_add(self.rng.choose(&[1, 255])),
+            1 => byte ^ 1 << self.rng.below(8),
+            _ => byte.wrapping_add(self.rng.between(1, 255) as u8),
+        }
+    }
+}
+
+/// A day without trouble: everyone prepares, joins and commits. That is
+/// 3 + 6(n - 1) commands and 3n rows.
+pub fn quiet_day(n: u8, c: u8, a: u8) -> Vec<u8> {
+    let n = usize::from(n);
+    let mut list = header(n, c.into(), a.into(), everyone(n));
+    let openings = [Command::Start, Command::Timeout(0), Command::Timeout(0)];
+    for (round, opening) in openings.iter().enumerate() {
+        let first = round * n;
+        list.extend(opening.bytes());
+        for site in 1..n {
+            list.extend(Command::Deliver { row: first, site }.bytes());
+        }
+        for reply in 1..n {
+            let row = first + reply;
+            list.extend(Command::Deliver { row, site: 0 }.bytes());
+        }
+    }
+    list
+}
+
+/// A long duel that nobody wins: joins for both groups, crashes, repeats,
+/// until the store is full; then commands that add no row. Every command is
+/// accepted. It has the wanted length if that is even, else one byte less,
+/// and stays within a list's limit; the header is always there.
+pub fn duel(n: u8, seed: u64, bytes: usize) -> Vec<u8> {
+    let mut rng = Rng::new(seed);
+    let n = usize::from(n).clamp(MIN_SITES, MAX_SITES);
+    let (c, a) = quorums(&mut rng, n);
+    let mut guide = Guide::new(n, c, a, everyone(n), bytes.min(MAX_LIST));
+    guide.quarrel(&mut rng);
+    guide.list
+}
+
+/// A list's header.
+pub fn header(n: usize, c: usize, a: usize, willing: u16) -> Vec<u8> {
+    let [low, high] = willing.to_le_bytes();
+    vec![n as u8, c as u8, a as u8, low, high]
+}
+
+/// A header that passes.
+fn random_header(rng: &mut Rng) -> Vec<u8> {
+    let (n, c, a) = sizes(rng);
+    header(n, c, a, willing(rng, n))
+}
+
+/// Legal sizes, small ones more often.
+fn sizes(rng: &mut Rng) -> (usize, usize, usize) {
+    let most = rng.choose(&[5, MAX_SITES]);
+    let n = rng.between(MIN_SITES, most);
+    let (c, a) = quorums(rng, n);
+    (n, c, a)
+}
+
+/// Legal quorums, as small as can be half of the time.
+fn quorums(rng: &mut Rng, n: usize) -> (usize, usize) {
+    let c = rng.between(2, n - 1);
+    let least = n + 1 - c;
+    let a = if rng.chance(50) {
+        least
+    } else {
+        rng.between(least, n - 1)
+    };
+    (c, a)
+}
+
+/// Willing sites: all, all but one, or any.
+fn willing(rng: &mut Rng, n: usize) -> u16 {
+    let all = everyone(n);
+    match rng.below(10) {
+        0..=7 => all,
+        8 => all & !(1 << rng.below(n)),
+        _ => all & rng.draw() as u16,
+    }
+}
+
+/// How long a guided list may get.
+fn length(rng: &mut Rng) -> usize {
+    match rng.below(100) {
+        0..=2 => HEADER_BYTES,
+        3..=37 => rng.between(HEADER_BYTES + 1, 100),
+        38..=79 => rng.between(101, 1_500),
+        80..=93 => rng.between(1_501, 6_000),
+        94..=98 => rng.between(6_001, MAX_LIST),
+        _ => MAX_LIST,
+    }
+}

@@ -1,0 +1,448 @@
+//! A list that grows along a world, so that its commands are accepted.
+
+use super::{header, Rng};
+use crate::command::Command;
+use crate::play::play_command;
+use crate::row::{Row, STORE_BYTES};
+use crate::world::{group_code, Side, State, World, MAX_ROWS};
+
+/// A row and a site it goes to.
+type Parcel = (usize, usize);
+
+/// How often each sort of move is made, out of the sum.
+#[derive(Clone, Copy)]
+struct Mood {
+    fresh: usize,
+    repeat: usize,
+    timeout: usize,
+    crash: usize,
+    recover: usize,
+}
+
+/// Most messages arrive.
+const CALM: Mood = mood(80, 3, 8, 0, 5);
+/// Many sites want to lead.
+const DUELLING: Mood = mood(40, 5, 40, 2, 6);
+/// Sites come and go.
+const CRASHING: Mood = mood(40, 5, 20, 15, 18);
+/// Old messages come again.
+const REPEATING: Mood = mood(20, 50, 15, 2, 5);
+/// Much is sent and little arrives.
+const FLOODING: Mood = mood(10, 5, 80, 1, 4);
+
+const MOODS: [Mood; 5] = [CALM, DUELLING, CRASHING, REPEATING, FLOODING];
+
+const fn mood(fresh: usize, repeat: usize, timeout: usize, crash: usize, recover: usize) -> Mood {
+    Mood {
+        fresh,
+        repeat,
+        timeout,
+        crash,
+        recover,
+    }
+}
+
+/// How a round goes: all numbers are out of a hundred.
+#[derive(Clone, Copy)]
+struct Weather {
+    /// Commands that arrive.
+    commands: usize,
+    /// Replies that arrive.
+    replies: usize,
+    /// Messages that arrive twice.
+    twice: usize,
+    /// Crashes between messages.
+    crashes: usize,
+}
+
+const WEATHERS: [Weather; 5] = [
+    weather(100, 100, 0, 0),
+    weather(100, 100, 10, 0),
+    weather(85, 90, 10, 1),
+    weather(60, 70, 5, 3),
+    weather(30, 50, 5, 8),
+];
+
+const fn weather(commands: usize, replies: usize, twice: usize, crashes: usize) -> Weather {
+    Weather {
+        commands,
+        replies,
+        twice,
+        crashes,
+    }
+}
+
+/// The list so far, the world it leads to, and what is under way.
+pub struct Guide {
+    pub list: Vec<u8>,
+    pub world: World,
+    pub store: Vec<u8>,
+    /// The list grows no longer than this.
+    pub limit: usize,
+    /// Below so many rows, nothing is to be decided.
+    hold: usize,
+    /// For each row, the sites it has not reached.
+    waiting: Vec<u16>,
+    arrived: Vec<Parcel>,
+}
+
+impl Guide {
+    pub fn new(n: usize, c: usize, a: usize, willing: u16, limit: usize) -> Guide {
+        Guide {
+            list: header(n, c, a, willing),
+            world: World::fresh(n, c, a, willing),
+            store: vec![0; STORE_BYTES],
+            limit,
+            hold: 0,
+            waiting: Vec::new(),
+            arrived: Vec::new(),
+        }
+    }
+
+    /// Bytes left for commands.
+    pub fn room(&self) -> usize {
+        self.limit.saturating_sub(self.list.len())
+    }
+
+    /// What a command would be answered with now.
+    pub fn answer(&mut self, bytes: &[u8]) -> Result<usize, u8> {
+        let mut world = self.world;
+        play_command(&mut world, &mut self.store, bytes, 0)
+    }
+
+    /// Adds a command if it is accepted and fits.
+    pub fn play(&mut self, command: Command) -> bool {
+        let bytes = command.bytes();
+        let mut next = self.world;
+        if bytes.len() > self.room()
+            || play_command(&mut next, &mut self.store, &bytes, 0).is_err()
+            || !self.may_become(&next)
+        {
+            return false;
+        }
+        if next.rows > self.world.rows {
+            self.waiting.push(self.row(self.world.rows).to);
+        }
+        self.world = next;
+        self.list.extend(bytes);
+        self.note_arrived(command);
+        true
+    }
+
+    /// Keeps account of what was delivered.
+    fn note_arrived(&mut self, command: Command) {
+        let Command::Deliver { row, site } = command else {
+            return;
+        };
+        if self.waiting[row] >> site & 1 == 1 {
+            self.waiting[row] &= !(1 << site);
+            self.arrived.push((row, site));
+        }
+    }
+
+    /// Is the next world one that is wanted?
+    fn may_become(&self, next: &World) -> bool {
+        next.rows >= self.hold || is_undecided(next)
+    }
+
+    /// A row that was sent.
+    pub fn row(&self, at: usize) -> Row {
+        Row::read(&self.store, at, self.world.n).expect("played rows are good")
+    }
+
+    /// Commands until the list is long enough.
+    pub fn wander(&mut self, rng: &mut Rng) {
+        let weather = rng.choose(&WEATHERS);
+        let floods = rng.chance(50);
+        if rng.chance(90) {
+            self.open(rng, weather);
+        }
+        if rng.chance(30) && is_undecided(&self.world) {
+            self.hold = rng.below(MAX_ROWS);
+        }
+        let mut idle = 0;
+        while self.room() >= 2 && idle < 100 {
+            let before = self.list.len();
+            self.wander_on(rng, weather, floods);
+            idle = if self.list.len() > before {
+                0
+            } else {
+                idle + 1
+            };
+            if idle > 20 {
+                self.hold = 0;
+            }
+        }
+    }
+
+    /// START and what follows from it, in fair weather most often, and the
+    /// next command of site 0 at times.
+    fn open(&mut self, rng: &mut Rng, weather: Weather) {
+        let first = if rng.chance(60) { WEATHERS[0] } else { weather };
+        self.round(rng, Command::Start, first);
+        if rng.chance(70) {
+            self.round(rng, Command::Timeout(0), weather);
+        }
+    }
+
+    /// Some more commands.
+    fn wander_on(&mut self, rng: &mut Rng, weather: Weather, floods: bool) {
+        let full = self.world.rows == MAX_ROWS;
+        match rng.below(4) {
+            0 => self.scatter(rng, floods),
+            _ if full => self.idle_move(rng),
+            1 => self.lead_anyone(rng, weather),
+            _ => self.lead_on(rng, weather),
+        }
+    }
+
+    /// A round by a coordinator if there is one.
+    fn lead_on(&mut self, rng: &mut Rng, weather: Weather) {
+        let leader = self.up_sites(|world, site| world.sites[site].coordinator);
+        match rng.pick(leader.into_iter()) {
+            Some(leader) => self.round(rng, Command::Timeout(leader), weather),
+            None => self.lead_anyone(rng, weather),
+        }
+    }
+
+    /// A round by any site, seldom one that is active.
+    fn lead_anyone(&mut self, rng: &mut Rng, weather: Weather) {
+        let hasty = rng.chance(8);
+        let leader = self.up_sites(|world, site| hasty || !is_active(world, site));
+        match rng.pick(leader.into_iter()) {
+            Some(leader) => self.round(rng, Command::Timeout(leader), weather),
+            None => self.scatter(rng, false),
+        }
+    }
+
+    /// The sites that are up and as wished.
+    pub fn up_sites(&self, wished: impl Fn(&World, usize) -> bool) -> Vec<usize> {
+        let sites = 0..self.world.n;
+        let fits = |&site: &usize| self.world.sites[site].up && wished(&self.world, site);
+        sites.filter(fits).collect()
+    }
+
+    /// A command is sent, arrives at some sites, and some replies come back.
+    fn round(&mut self, rng: &mut Rng, opening: Command, weather: Weather) {
+        let row = self.world.rows;
+        if !self.play(opening) || self.world.rows == row {
+            return;
+        }
+        let mut sites: Vec<usize> = self.row(row).destinations(self.world.n).collect();
+        rng.shuffle(&mut sites);
+        let first_reply = self.world.rows;
+        for site in sites {
+            self.carry(rng, (row, site), weather.commands, weather);
+        }
+        for reply in first_reply..self.world.rows {
+            self.carry(rng, (reply, opening.site()), weather.replies, weather);
+        }
+    }
+
+    /// A message arrives or not, perhaps twice, perhaps with a crash.
+    fn carry(&mut self, rng: &mut Rng, parcel: Parcel, percent: usize, weather: Weather) {
+        if rng.chance(percent) {
+            self.hand_over(parcel);
+        }
+        if rng.chance(weather.twice) {
+            self.hand_over(parcel);
+        }
+        if rng.chance(weather.crashes) {
+            let site = rng.below(self.world.n);
+            self.play(Command::Crash(site));
+        }
+        if rng.chance(weather.crashes) {
+            let site = rng.below(self.world.n);
+            self.play(Command::Recover(site));
+        }
+    }
+
+    fn hand_over(&mut self, (row, site): Parcel) -> bool {
+        self.play(Command::Deliver { row, site })
+    }
+
+    /// Some moves without a plan.
+    fn scatter(&mut self, rng: &mut Rng, floods: bool) {
+        let moods = if floods { &MOODS[..] } else { &MOODS[..4] };
+        let mood = rng.choose(moods);
+        for _ in 0..rng.between(1, 40) {
+            self.random_move(rng, mood);
+        }
+    }
+
+    fn random_move(&mut self, rng: &mut Rng, mood: Mood) -> bool {
+        let sum = mood.fresh + mood.repeat + mood.timeout + mood.crash + mood.recover;
+        let mut draw = rng.below(sum);
+        let mut drawn = |share: usize| {
+            let hit = draw < share;
+            draw = draw.wrapping_sub(share);
+            hit
+        };
+        if drawn(mood.fresh) {
+            self.deliver_fresh(rng)
+        } else if drawn(mood.repeat) {
+            self.deliver_again(rng)
+        } else if drawn(mood.timeout) {
+            self.time_out(rng)
+        } else if drawn(mood.crash) {
+            self.play(Command::Crash(rng.below(self.world.n)))
+        } else {
+            self.recover_one(rng)
+        }
+    }
+
+    /// Something that has not arrived yet, often of late.
+    fn deliver_fresh(&mut self, rng: &mut Rng) -> bool {
+        let Some(row) = self.recent_row(rng) else {
+            return false;
+        };
+        let left = self.waiting[row];
+        match rng.pick((0..self.world.n).filter(|site| left >> site & 1 == 1)) {
+            Some(site) => self.hand_over((row, site)),
+            None => false,
+        }
+    }
+
+    /// A row that was sent, of late more often.
+    fn recent_row(&self, rng: &mut Rng) -> Option<usize> {
+        let reach = self.world.rows.min(rng.choose(&[8, 40, MAX_ROWS]));
+        self.world.rows.checked_sub(1 + rng.below(reach))
+    }
+
+    /// Something that has arrived before.
+    fn deliver_again(&mut self, rng: &mut Rng) -> bool {
+        let at = rng.below(self.arrived.len());
+        match self.arrived.get(at).copied() {
+            Some(parcel) => self.hand_over(parcel),
+            None => false,
+        }
+    }
+
+    fn time_out(&mut self, rng: &mut Rng) -> bool {
+        let hasty = rng.chance(3);
+        let sites = self.up_sites(|world, site| hasty || !is_active(world, site));
+        match rng.pick(sites.into_iter()) {
+            Some(site) => self.play(Command::Timeout(site)),
+            None => false,
+        }
+    }
+
+    fn recover_one(&mut self, rng: &mut Rng) -> bool {
+        let down = (0..self.world.n).filter(|&site| !self.world.sites[site].up);
+        match rng.pick(down) {
+            Some(site) => self.play(Command::Recover(site)),
+            None => false,
+        }
+    }
+
+    /// A duel until the store is full, and small things after that.
+    pub fn quarrel(&mut self, rng: &mut Rng) {
+        self.open_quarrel(rng);
+        self.hold = MAX_ROWS + 1;
+        while self.room() >= 2 && self.world.rows < MAX_ROWS {
+            self.quarrel_move(rng);
+        }
+        while self.room() >= 2 {
+            self.idle_move(rng);
+        }
+    }
+
+    /// Everyone prepares; site 0 joins the commit group, site 1 the other.
+    fn open_quarrel(&mut self, rng: &mut Rng) {
+        self.round(rng, Command::Start, WEATHERS[0]);
+        self.play(Command::Timeout(0));
+        self.play(Command::Timeout(1));
+        self.play(Command::Timeout(1));
+    }
+
+    /// A move after which nobody can end the matter. If the one drawn is not
+    /// of that sort, site 0 or 1 sends its command once more, as it always can.
+    fn quarrel_move(&mut self, rng: &mut Rng) {
+        let command = self.quarrel_command(rng);
+        if !self.play(command) {
+            let site = rng.below(2);
+            self.play(Command::Recover(site));
+            self.play(Command::Timeout(site));
+        }
+    }
+
+    fn quarrel_command(&mut self, rng: &mut Rng) -> Command {
+        let site = rng.below(self.world.n);
+        match (rng.below(100), self.recent_row(rng)) {
+            (0..=39, _) => Command::Timeout(site),
+            (40..=79, Some(row)) => Command::Deliver {
+                row,
+                site: self.site_of(rng, row),
+            },
+            (80..=86, _) => Command::Crash(site),
+            _ => Command::Recover(site),
+        }
+    }
+
+    /// One of a row's sites.
+    fn site_of(&self, rng: &mut Rng, row: usize) -> usize {
+        let found = rng.pick(self.row(row).destinations(self.world.n));
+        found.expect("a row goes somewhere")
+    }
+
+    /// A command that adds no row and is accepted with a full store.
+    fn idle_move(&mut self, rng: &mut Rng) {
+        let site = rng.below(self.world.n);
+        let played = match rng.below(100) {
+            0..=79 => self.deliver_reply(rng),
+            80..=86 => self.play(Command::Crash(site)),
+            _ => self.recover_one(rng),
+        };
+        if !played {
+            self.flip(site);
+        }
+    }
+
+    /// Some reply to the site it was sent to.
+    fn deliver_reply(&mut self, rng: &mut Rng) -> bool {
+        let row = rng.below(self.world.rows);
+        if self.row(row).kind.reply().is_some() {
+            return false;
+        }
+        let site = self.site_of(rng, row);
+        self.hand_over((row, site))
+    }
+
+    /// An up site goes down, a down site comes up.
+    fn flip(&mut self, site: usize) {
+        if self.world.sites[site].up {
+            self.play(Command::Crash(site));
+        } else {
+            self.play(Command::Recover(site));
+        }
+    }
+
+    /// The rows that are commands, each with those of its sites that are as
+    /// wished.
+    pub fn commands_for(&self, wished: impl Fn(&World, usize) -> bool) -> Vec<Parcel> {
+        let n = self.world.n;
+        (0..self.world.rows)
+            .map(|at| (at, self.row(at)))
+            .filter(|(_, row)| row.kind.reply().is_some())
+            .flat_map(|(at, row)| row.destinations(n).map(move |site| (at, site)))
+            .filter(|&(_, site)| wished(&self.world, site))
+            .collect()
+    }
+}
+
+fn is_active(world: &World, site: usize) -> bool {
+    world.sites[site].state() == State::Active
+}
+
+/// No outcome is written and no site knows of a quorum.
+fn is_undecided(world: &World) -> bool {
+    let known = |codes: &[u8], side| {
+        let code = group_code(side);
+        codes.iter().filter(|&&held| held == code).count()
+    };
+    world.members().iter().all(|site| {
+        site.outcome.is_none()
+            && known(&site.codes, Side::Commit) < world.commit
+            && known(&site.codes, Side::Abort) < world.abort
+    })
+}

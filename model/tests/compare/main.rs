@@ -1,0 +1,248 @@
+//! The proved library and the model, byte for byte.
+//!
+//! Run it for release: cargo test --release --test compare -- --nocapture
+
+#![deny(unsafe_code)]
+
+mod comparer;
+mod directed;
+mod faults;
+#[path = "../../ffi/mod.rs"]
+mod ffi;
+
+use std::time::Instant;
+
+use model::calls::{Calls, Model, Numbers, RESULT_BYTES};
+use model::generate::Generator;
+use model::layout::{encode, WORLD_BYTES};
+use model::play_list;
+use model::row::STORE_BYTES;
+
+use comparer::Comparer;
+use faults::{Fault, Faulty, FAULTS};
+use ffi::Library;
+
+const SEED: u64 = 20_261_115;
+
+/// How much is compared.
+struct Amount {
+    short: usize,
+    middle: usize,
+    long: usize,
+    calls: usize,
+    reports: usize,
+}
+
+const WHOLE: Amount = Amount {
+    short: 90_000,
+    middle: 10_000,
+    long: 2_000,
+    calls: 60_000,
+    reports: 20_000,
+};
+
+const PART: Amount = Amount {
+    short: 1_000,
+    middle: 500,
+    long: 50,
+    calls: 1_000,
+    reports: 500,
+};
+
+/// Clauses of which the directed calls must have hit each. A name that is
+/// hit is put down by the call itself; these are the paper's.
+const CLAUSES: [&str; 40] = [
+    "16 store too short",
+    "17 n under 3",
+    "17 n over 16",
+    "17 C over n - 1",
+    "17 A over n - 1",
+    "17 C + A under n + 1",
+    "17 willing bit at n or above",
+    "17 rows over 1,024",
+    "17 code above 5",
+    "17 entry from n up not 0",
+    "17 own entry not its state",
+    "17 group's code above 5",
+    "17 group's entry from n up not 0",
+    "17 group's own entry not its group",
+    "17 vector without a group",
+    "17 layout: length",
+    "17 layout: number",
+    "17 layout: reserved in the head",
+    "17 layout: up",
+    "17 layout: role",
+    "17 layout: prepare record",
+    "17 layout: group",
+    "17 layout: outcome",
+    "17 layout: reserved at a site",
+    "17 result length",
+    "17 world length of a list",
+    "17 stop number",
+    "17 events or place over 32,768",
+    "6 none left",
+    "6 not 1 to 5",
+    "9 row not below the count",
+    "10 kind not 1 to 7",
+    "10 sender n or more",
+    "10 code above 5",
+    "11 not a destination",
+    "15 START",
+    "15 DELIVER of a command",
+    "15 TIMEOUT of a coordinator",
+    "15 TIMEOUT of a subordinate",
+    "18 buffer too short",
+];
+
+/// All that is compared; the first difference ends it.
+fn compare(both: &mut Comparer, amount: &Amount) -> Result<(), String> {
+    made_by_hand(both)?;
+    generated(both, amount)
+}
+
+fn made_by_hand(both: &mut Comparer) -> Result<(), String> {
+    directed::lists(both)?;
+    directed::worlds(both)?;
+    directed::every_byte(both)?;
+    directed::commands(both)?;
+    let mut worlds = directed::report_worlds().into_iter();
+    worlds.try_for_each(|world| directed::reports(both, &world))
+}
+
+fn generated(both: &mut Comparer, amount: &Amount) -> Result<(), String> {
+    generated_lists(both, Generator::up_to(SEED, 160), amount.short)?;
+    generated_lists(both, Generator::up_to(SEED + 1, 1_500), amount.middle)?;
+    generated_lists(both, Generator::new(SEED + 2), amount.long)?;
+    generated_calls(both, amount.calls)?;
+    generated_reports(both, amount.reports)
+}
+
+/// Lists played at once; one in fifty of the short ones also command by
+/// command.
+fn generated_lists(both: &mut Comparer, mut from: Generator, count: usize) -> Result<(), String> {
+    for at in 0..count {
+        let list = from.next_list();
+        let number = both.list(&list)?;
+        if at % 50 == 0 && list.len() < 400 && (number == 0 || number > 5) {
+            both.walk(&list)?;
+        }
+    }
+    Ok(())
+}
+
+/// One-command calls, on damaged worlds and stores too.
+fn generated_calls(both: &mut Comparer, count: usize) -> Result<(), String> {
+    let mut from = Generator::new(SEED + 3);
+    for _ in 0..count {
+        let call = from.next_call();
+        let world = encode(&call.world);
+        both.command(&world, &call.store, &call.list, call.at, RESULT_BYTES)?;
+    }
+    Ok(())
+}
+
+/// Reports of worlds that lists lead to and of damaged ones.
+fn generated_reports(both: &mut Comparer, count: usize) -> Result<(), String> {
+    let mut from = Generator::up_to(SEED + 4, 400);
+    let mut store = vec![0; STORE_BYTES];
+    for at in 0..count {
+        let played = play_list(&mut store, &from.next_list());
+        let numbers = Numbers {
+            events: played.events,
+            stop: played.number.into(),
+            place: played.place,
+        };
+        let size = 1_022 + at % 5;
+        both.report(&encode(&played.world), numbers, size, RESULT_BYTES)?;
+        if at % 4 == 0 {
+            let stop = at as u32 / 4 % 21;
+            let world = encode(&from.next_call().world);
+            both.report(&world, Numbers { stop, ..numbers }, size, RESULT_BYTES)?;
+        }
+    }
+    Ok(())
+}
+
+fn print(both: &Comparer) {
+    println!(
+        "lists {} (events {}), commands {}, reports {}",
+        both.lists, both.events, both.calls, both.reports
+    );
+    for (number, count) in &both.numbers {
+        println!("number {number:2} seen {count:8}");
+    }
+    for (name, count) in &both.clauses {
+        println!("clause {name}: {count}");
+    }
+}
+
+#[test]
+fn library_and_model_agree() {
+    let start = Instant::now();
+    let mut both = Comparer::new(&Library, &Model);
+    if let Err(why) = compare(&mut both, &WHOLE) {
+        panic!("{why}");
+    }
+    print(&both);
+    println!("no difference in {:.1} s", start.elapsed().as_secs_f64());
+    assert!(both.lists >= 100_000);
+    for number in 0..=18 {
+        assert!(both.numbers.contains_key(&number), "{number} never seen");
+    }
+    for name in CLAUSES {
+        assert!(both.clauses.contains_key(name), "{name} never hit");
+    }
+}
+
+/// The paper's own report, from the library.
+#[test]
+fn the_library_writes_the_report_of_the_paper() {
+    let list = [
+        3, 2, 2, 7, 0, 1, 2, 0, 0, 1, 2, 1, 0, 0, 3, 0, 2, 2, 0, 2, 2, 3, 0, 0, 3, 0,
+    ];
+    let (mut store, mut world) = (vec![0xee; STORE_BYTES], vec![0xee; WORLD_BYTES]);
+    let (mut result, mut buffer) = ([0xee; RESULT_BYTES], [0xee; 1024]);
+    let number = Library.play_list(&list, &mut store, &mut world, &mut result);
+    assert_eq!((number, result), (0, [7, 0, 0, 0, 26, 0, 0, 0]));
+    let numbers = Numbers {
+        events: 7,
+        stop: 0,
+        place: 26,
+    };
+    let number = Library.report(&world, numbers, &mut buffer, &mut result);
+    assert_eq!(number, 0);
+    let text = "sites 3 commit 2 abort 2 events 7 rows 5\n\
+                0 up coordinator aborted PAa 513\n\
+                1 up subordinate prepared P-- 110\n\
+                2 up subordinate abort-group -A- 313\n\
+                end 26\n";
+    assert_eq!(result, text.len().to_le_bytes());
+    assert_eq!(&buffer[..text.len()], text.as_bytes());
+    assert!(buffer[text.len()..].iter().all(|&byte| byte == 0xee));
+}
+
+/// A copy of the model without a fault agrees; with any fault it does not, by
+/// generated calls alone and with those made by hand.
+#[test]
+fn a_fault_in_the_model_is_noticed() {
+    let sound = compare(&mut Comparer::new(&Library, &Faulty(Fault::None)), &PART);
+    assert_eq!(sound, Ok(()));
+    for fault in FAULTS {
+        let faulty = Faulty(fault);
+        let by_hand = made_by_hand(&mut Comparer::new(&Library, &faulty));
+        let drawn = generated(&mut Comparer::new(&Library, &faulty), &PART);
+        for (way, found) in [("by hand", by_hand), ("generated", drawn)] {
+            let Err(why) = found else {
+                panic!("{fault:?} is not noticed {way}");
+            };
+            println!("{fault:?} noticed {way}: {}", in_short(&why));
+        }
+    }
+}
+
+/// A difference on one line, its long parts cut.
+fn in_short(why: &str) -> String {
+    let short = |line: &str| line.chars().take(60).collect::<String>();
+    let lines: Vec<String> = why.lines().take(5).map(short).collect();
+    lines.join("; ")
+}
