@@ -13,8 +13,23 @@ fn three(willing: u16, commands: &[Command]) -> Vec<u8> {
     list
 }
 
-fn deliver(row: usize, site: usize) -> Command {
+const fn deliver(row: usize, site: usize) -> Command {
     Command::Deliver { row, site }
+}
+
+/// Sites 0 and 2 in the abort group, and site 0 knows it.
+const TWO_AGAINST: [Command; 6] = [
+    Start,
+    deliver(0, 1),
+    deliver(1, 0),
+    Timeout(0),
+    deliver(2, 2),
+    deliver(3, 0),
+];
+
+/// Those commands and then some.
+fn two_against(then: &[Command]) -> Vec<u8> {
+    three(7, &[&TWO_AGAINST[..], then].concat())
 }
 
 /// A played list and its rows.
@@ -99,20 +114,7 @@ fn m3_the_printed_report() {
 
 #[test]
 fn a_stopped_list_names_number_and_place() {
-    let list = three(
-        7,
-        &[
-            Start,
-            deliver(0, 1),
-            deliver(1, 0),
-            Timeout(0),
-            deliver(2, 2),
-            deliver(3, 0),
-            Crash(0),
-            Timeout(0),
-        ],
-    );
-    let text = printed(&list);
+    let text = printed(&two_against(&[Crash(0), Timeout(0)]));
     assert!(text.starts_with("sites 3 commit 2 abort 2 events 7 rows 4\n"));
     assert!(text.ends_with("\nrefused 12 at 26\n"));
 }
@@ -289,18 +291,9 @@ fn an_abort_group_member_stays_when_a_join_commit_arrives() {
 
 #[test]
 fn a_crash_leaves_the_group_records_vector() {
-    let commands = [
-        Start,
-        deliver(0, 1),
-        deliver(1, 0),
-        Timeout(0),
-        deliver(2, 2),
-        deliver(3, 0),
-        Crash(0),
-    ];
-    let before = Day::new(&three(7, &commands[..6]));
+    let before = Day::new(&two_against(&[]));
     assert_eq!(before.codes(0), [3, 1, 3]);
-    let after = Day::new(&three(7, &commands));
+    let after = Day::new(&two_against(&[Crash(0)]));
     after.assert_accepted(7, 4);
     assert_eq!(after.codes(0), [3, 1, 0]);
     assert!(!after.site(0).up && !after.site(0).coordinator);

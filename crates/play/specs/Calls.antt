@@ -1,8 +1,7 @@
 -- A call's answer, and how a rule's move enters world and store. Refusal 15: a row is to be added and 1,024 are there.
-use Prim.Native.Nat.{ℕ, _+_, _≤_}
+use Prim.Native.Nat.{ℕ, _+_}
 use mathlib.Core.List.{List, []}
 use lib.Dec.{ltb, eqb}
-use lib.ListN.{length}
 use Rattle.choice.specs.Choice.{pick}
 use Rattle.row.specs.Rows.{putRow}
 use Rattle.site.specs.Records.{Written}
@@ -56,10 +55,3 @@ enter w store at next own m =
 -- what the code hands back of a call, beside the store that it was lent
 unfoldable pub playedOf : Call → Played
 playedOf r = record { number = r .number; world = r .world; place = r .place }
-
--- what lets a command be played with no further check: sizes in range, rows that the store can hold
-pub record Ready (w : World) (store : List ℕ) : Type 0 where
-  pub low : 3 ≤ w .n
-  pub high : w .n ≤ 16
-  pub few : w .rows ≤ 1024
-  pub room : 20480 ≤ length store

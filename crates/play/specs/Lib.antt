@@ -1,4 +1,5 @@
 pub mod Calls
+pub mod Changes
 pub mod CallLaws
 pub mod Commands
 pub mod Run

@@ -1,176 +1,119 @@
-// The five commands, each after its refusals.
+// The five commands on the site that they name, each after its refusals. 8 is asked before.
 ghost use mathlib.Core.Path.{_≡_};
 ghost use Prim.Native.Nat.{_<_};
-ghost use Rattle.play.specs.Calls.{Ready, playedOf};
+ghost use Rattle.play.specs.Changes.{Ready, Acts};
 ghost use Rattle.play.specs.Commands.{startCall, timeoutCall, crashCall, recoverCall, deliverRow, deliverCall};
-use crate::Played;
+use crate::Change;
+use crate::Head;
 use crate::enter::enter;
+use crate::enter::refused;
 use row::Row;
-use world::World;
+use site::Site;
 
-pub fn start(world: World, store: &mut [u8], at: usize, next: usize) -> Played
-    requires { ⌜ Ready world (now store) ⌝ }
-    ensures played { λ r. ⌜ r ≡ playedOf (startCall world (now (store .entry)) at next) ⌝ }
-    ensures stored { λ r. ⌜ now (store .exit) ≡ (startCall world (now (store .entry)) at next) .store ⌝ }
+pub fn start(head: Head, store: &mut [u8], at: usize, next: usize, site: Site) -> Change
+    requires { ⌜ Ready head (now store) ⌝ }
+    ensures { λ r. ⌜ Acts head 0 site r (now (store .exit)) (λ w. startCall w (now (store .entry)) at next) ⌝ }
 {
-    let site = world.site(0);
     if site.up {
         if site::is_active(site.state()) {
-            let step = site.start(world.n, world.willing_at(0));
-            return enter(world, store, at, next, 0, step);
+            let step = site.start(head.n, row::has_bit(head.willing, 0));
+            return enter(head, store, at, next, 0, site, step);
         }
-        return Played {
-            number: 14,
-            world,
-            place: at,
-        };
+        return refused(14, head, at, site);
     }
-    Played {
-        number: 12,
-        world,
-        place: at,
-    }
+    refused(12, head, at, site)
 }
 
-pub fn timeout(world: World, store: &mut [u8], at: usize, next: usize, own: usize) -> Played
-    requires { ⌜ Ready world (now store) ⌝ }
-    ensures played { λ r. ⌜ r ≡ playedOf (timeoutCall world (now (store .entry)) at next own) ⌝ }
-    ensures stored { λ r. ⌜ now (store .exit) ≡ (timeoutCall world (now (store .entry)) at next own) .store ⌝ }
+pub fn timeout(
+    head: Head,
+    store: &mut [u8],
+    at: usize,
+    next: usize,
+    own: usize,
+    site: Site,
+) -> Change
+    requires { ⌜ Ready head (now store) × (own < head .n) ⌝ }
+    ensures { λ r. ⌜ Acts head own site r (now (store .exit)) (λ w. timeoutCall w (now (store .entry)) at next own) ⌝ }
 {
-    if own < world.n {
-        let site = world.site(own);
-        if site.up {
-            let commit = world.commit;
-            let abort = world.abort;
-            let step = site.timeout(own, world.n, commit, abort);
-            return enter(world, store, at, next, own, step);
-        }
-        return Played {
-            number: 12,
-            world,
-            place: at,
-        };
+    if site.up {
+        let commit = head.commit;
+        let abort = head.abort;
+        let step = site.timeout(own, head.n, commit, abort);
+        return enter(head, store, at, next, own, site, step);
     }
-    Played {
-        number: 8,
-        world,
-        place: at,
-    }
+    refused(12, head, at, site)
 }
 
-pub fn crash(world: World, store: &mut [u8], at: usize, next: usize, own: usize) -> Played
-    requires { ⌜ Ready world (now store) ⌝ }
-    ensures played { λ r. ⌜ r ≡ playedOf (crashCall world (now (store .entry)) at next own) ⌝ }
-    ensures stored { λ r. ⌜ now (store .exit) ≡ (crashCall world (now (store .entry)) at next own) .store ⌝ }
+pub fn crash(head: Head, store: &mut [u8], at: usize, next: usize, own: usize, site: Site) -> Change
+    requires { ⌜ Ready head (now store) × (own < head .n) ⌝ }
+    ensures { λ r. ⌜ Acts head own site r (now (store .exit)) (λ w. crashCall w (now (store .entry)) at next own) ⌝ }
 {
-    if own < world.n {
-        let site = world.site(own);
-        if site.up {
-            let step = site.crash(own);
-            return enter(world, store, at, next, own, step);
-        }
-        return Played {
-            number: 12,
-            world,
-            place: at,
-        };
+    if site.up {
+        let step = site.crash(own);
+        return enter(head, store, at, next, own, site, step);
     }
-    Played {
-        number: 8,
-        world,
-        place: at,
-    }
+    refused(12, head, at, site)
 }
 
-pub fn recover(world: World, store: &mut [u8], at: usize, next: usize, own: usize) -> Played
-    requires { ⌜ Ready world (now store) ⌝ }
-    ensures played { λ r. ⌜ r ≡ playedOf (recoverCall world (now (store .entry)) at next own) ⌝ }
-    ensures stored { λ r. ⌜ now (store .exit) ≡ (recoverCall world (now (store .entry)) at next own) .store ⌝ }
+pub fn recover(
+    head: Head,
+    store: &mut [u8],
+    at: usize,
+    next: usize,
+    own: usize,
+    site: Site,
+) -> Change
+    requires { ⌜ Ready head (now store) × (own < head .n) ⌝ }
+    ensures { λ r. ⌜ Acts head own site r (now (store .exit)) (λ w. recoverCall w (now (store .entry)) at next own) ⌝ }
 {
-    if own < world.n {
-        let site = world.site(own);
-        if site.up {
-            return Played {
-                number: 13,
-                world,
-                place: at,
-            };
-        }
-        let step = site.recover();
-        return enter(world, store, at, next, own, step);
+    if site.up {
+        return refused(13, head, at, site);
     }
-    Played {
-        number: 8,
-        world,
-        place: at,
-    }
+    let step = site.recover();
+    enter(head, store, at, next, own, site, step)
 }
 
-// A row that is there, to a site below n.
+// A row that is there.
 fn deliver_row(
-    world: World,
+    head: Head,
     store: &mut [u8],
     at: usize,
     next: usize,
     row: Row,
     own: usize,
-) -> Played
-    requires { ⌜ Ready world (now store) × (own < world .n) ⌝ }
-    ensures played { λ r. ⌜ r ≡ playedOf (deliverRow world (now (store .entry)) at next row own) ⌝ }
-    ensures stored { λ r. ⌜ now (store .exit) ≡ (deliverRow world (now (store .entry)) at next row own) .store ⌝ }
+    site: Site,
+) -> Change
+    requires { ⌜ Ready head (now store) × (own < head .n) ⌝ }
+    ensures { λ r. ⌜ Acts head own site r (now (store .exit)) (λ w. deliverRow w (now (store .entry)) at next row own) ⌝ }
 {
-    if row::row_known(world.n, row) {
+    if row::row_known(head.n, row) {
         if row::has_bit(row.destinations, own) {
-            let site = world.site(own);
             if site.up {
-                let step = site.deliver(own, world.n, world.willing_at(own), row);
-                return enter(world, store, at, next, own, step);
+                let step = site.deliver(own, head.n, row::has_bit(head.willing, own), row);
+                return enter(head, store, at, next, own, site, step);
             }
-            return Played {
-                number: 12,
-                world,
-                place: at,
-            };
+            return refused(12, head, at, site);
         }
-        return Played {
-            number: 11,
-            world,
-            place: at,
-        };
+        return refused(11, head, at, site);
     }
-    Played {
-        number: 10,
-        world,
-        place: at,
-    }
+    refused(10, head, at, site)
 }
 
 pub fn deliver(
-    world: World,
+    head: Head,
     store: &mut [u8],
     at: usize,
     next: usize,
     k: usize,
     own: usize,
-) -> Played
-    requires { ⌜ Ready world (now store) ⌝ }
-    ensures played { λ r. ⌜ r ≡ playedOf (deliverCall world (now (store .entry)) at next k own) ⌝ }
-    ensures stored { λ r. ⌜ now (store .exit) ≡ (deliverCall world (now (store .entry)) at next k own) .store ⌝ }
+    site: Site,
+) -> Change
+    requires { ⌜ Ready head (now store) × (own < head .n) ⌝ }
+    ensures { λ r. ⌜ Acts head own site r (now (store .exit)) (λ w. deliverCall w (now (store .entry)) at next k own) ⌝ }
 {
-    if own < world.n {
-        if k < world.rows {
-            let row = row::get_row(store, k);
-            return deliver_row(world, store, at, next, row, own);
-        }
-        return Played {
-            number: 9,
-            world,
-            place: at,
-        };
+    if k < head.rows {
+        let row = row::get_row(store, k);
+        return deliver_row(head, store, at, next, row, own, site);
     }
-    Played {
-        number: 8,
-        world,
-        place: at,
-    }
+    refused(9, head, at, site)
 }

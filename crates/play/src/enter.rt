@@ -1,47 +1,58 @@
-// A rule's step put into world and store.
+// A rule's step put into site, row count and store; a refusal.
 ghost use mathlib.Core.Path.{_≡_};
 ghost use mathlib.Core.List.{List};
-ghost use Prim.Native.Nat.{_<_};
 ghost use Rattle.site.specs.Records.{Written};
-ghost use Rattle.play.specs.Calls.{Ready, enter, playedOf};
-use crate::Played;
+ghost use Rattle.play.specs.Calls.{enter};
+ghost use Rattle.play.specs.Changes.{Ready, Acts, refusedChange};
+use crate::Change;
+use crate::Head;
+use site::Site;
 use site::Step;
 use world::World;
 
-// The site put back and its row added; 15 where there is no room for it. The records that the step wrote do not matter here.
+pub fn refused(number: u8, head: Head, at: usize, site: Site) -> Change
+    ensures { λ r. ⌜ r ≡ refusedChange number head at site ⌝ }
+{
+    Change {
+        number,
+        site,
+        rows: head.rows,
+        place: at,
+    }
+}
+
+// The step's site, and its row added; 15 where there is no room for it. The records that the step wrote do not matter here.
 pub fn enter(
-    world: World,
+    head: Head,
     store: &mut [u8],
     at: usize,
     next: usize,
     own: usize,
+    site: Site,
     step: Step,
-) -> Played
-    requires { ⌜ Ready world (now store) × (own < 16) ⌝ }
-    ensures played { λ r. ⌜ ((records : List Written) → r ≡ playedOf (enter world (now (store .entry)) at next own (record { step = step; records = records }))) ⌝ }
-    ensures stored { λ r. ⌜ ((records : List Written) → now (store .exit) ≡ (enter world (now (store .entry)) at next own (record { step = step; records = records })) .store) ⌝ }
+) -> Change
+    requires { ⌜ Ready head (now store) ⌝ }
+    ensures { λ r. ⌜ ((records : List Written) → Acts head own site r (now (store .exit)) (λ w. enter w (now (store .entry)) at next own (record { step = step; records = records }))) ⌝ }
 {
-    let site = step.site;
+    let after = step.site;
     let row = step.row;
-    let rows = world.rows;
+    let rows = head.rows;
     if row.kind == 0 {
-        return Played {
+        return Change {
             number: 0,
-            world: world.put_site(own, site),
+            site: after,
+            rows,
             place: next,
         };
     }
     if rows < World::ROWS {
         row::put_row(store, rows, row);
-        return Played {
+        return Change {
             number: 0,
-            world: world.put_site(own, site).put_rows(rows + 1),
+            site: after,
+            rows: rows + 1,
             place: next,
         };
     }
-    Played {
-        number: 15,
-        world,
-        place: at,
-    }
+    refused(15, head, at, site)
 }

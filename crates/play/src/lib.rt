@@ -1,15 +1,41 @@
 // One command: the refusals in the table's order, then the rule; the site put back and its row added.
+mod acts;
+mod apart;
 mod commands;
 mod enter;
 mod perform;
 
+pub use acts::act;
+pub use acts::actor;
+pub use apart::head_of;
+pub use apart::world_of;
 pub use perform::one_command;
-pub use perform::play_command;
+use site::AbortQuorum;
+use site::CommitQuorum;
+use site::Site;
 use world::World;
 
 // A call's answer beside the store: number (0: accepted), world, and the place after the operands, or that of the refused command.
 pub struct Played {
     pub number: u8,
     pub world: World,
+    pub place: usize,
+}
+
+// A world beside its sites.
+pub struct Head {
+    pub n: usize,
+    pub commit: CommitQuorum,
+    pub abort: AbortQuorum,
+    pub willing: usize,
+    pub rows: usize,
+}
+
+// What a command leaves of the one site that it acts on and of the row count: both as they were where it is refused. So no world,
+// of about 600 bytes, is copied for a command.
+pub struct Change {
+    pub number: u8,
+    pub site: Site,
+    pub rows: usize,
     pub place: usize,
 }

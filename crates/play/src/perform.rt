@@ -1,48 +1,29 @@
 // One command, read and performed.
 ghost use mathlib.Core.Path.{_≡_};
-ghost use Rattle.play.specs.Calls.{Ready, playedOf};
-ghost use Rattle.play.specs.Commands.{perform, playCommand, oneCommand};
+ghost use Rattle.play.specs.Calls.{playedOf};
+ghost use Rattle.play.specs.Changes.{Ready, headOf};
+ghost use Rattle.play.specs.Commands.{playCommand, oneCommand};
 use crate::Played;
-use crate::commands::crash;
-use crate::commands::deliver;
-use crate::commands::recover;
-use crate::commands::start;
-use crate::commands::timeout;
-use command::Command;
-use command::Reading;
+use crate::acts::act;
+use crate::acts::actor;
+use crate::apart::head_of;
 use world::World;
 
-fn perform(command: Command, world: World, store: &mut [u8], at: usize, next: usize) -> Played
-    requires { ⌜ Ready world (now store) ⌝ }
-    ensures played { λ r. ⌜ r ≡ playedOf (perform command world (now (store .entry)) at next) ⌝ }
-    ensures stored { λ r. ⌜ now (store .exit) ≡ (perform command world (now (store .entry)) at next) .store ⌝ }
-{
-    match command {
-        Command::Start => start(world, store, at, next),
-        Command::Deliver(d) => deliver(world, store, at, next, d.row, d.site),
-        Command::Timeout(t) => timeout(world, store, at, next, t.site),
-        Command::Crash(t) => crash(world, store, at, next, t.site),
-        Command::Recover(t) => recover(world, store, at, next, t.site),
-    }
-}
-
 // The command at a place of the list, in a world that 17 need not be asked of.
-pub fn play_command(world: World, store: &mut [u8], list: &[u8], at: usize) -> Played
-    requires { ⌜ Ready world (now store) ⌝ }
+fn play_command(world: World, store: &mut [u8], list: &[u8], at: usize) -> Played
+    requires { ⌜ Ready (headOf world) (now store) ⌝ }
     ensures played { λ r. ⌜ r ≡ playedOf (playCommand world (now (store .entry)) (now (list .entry)) at) ⌝ }
     ensures stored { λ r. ⌜ now (store .exit) ≡ (playCommand world (now (store .entry)) (now (list .entry)) at) .store ⌝ }
 {
     let reading = command::read_command(list, at);
-    let Reading::Found(parsed) = reading else {
-        let refusal = command::refusal_of(reading);
-        return Played {
-            number: refusal.number,
-            world,
-            place: refusal.place,
-        };
-    };
-    let command = parsed.command;
-    perform(command, world, store, at, parsed.next)
+    let own = actor(reading, world.n);
+    let change = act(reading, head_of(world), world.site(own), store, at);
+    let site = change.site;
+    Played {
+        number: change.number,
+        world: world.put_site(own, site).put_rows(change.rows),
+        place: change.place,
+    }
 }
 
 // One command on any world, any store, any list, any place.

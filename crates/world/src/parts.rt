@@ -1,7 +1,7 @@
 // The parts of a world: read, and put.
 ghost use mathlib.Core.Path.{_≡_};
 ghost use Prim.Native.Nat.{_<_};
-ghost use Rattle.world.specs.Worlds.{siteOf, isWilling, withSite, withRows};
+ghost use Rattle.world.specs.Worlds.{siteOf, withSite, withRows};
 use crate::World;
 use site::Site;
 
@@ -26,12 +26,5 @@ impl World {
     {
         self.rows = k;
         self
-    }
-
-    pub fn willing_at(self, i: usize) -> bool
-        requires { ⌜ i < 16 ⌝ }
-        ensures { λ r. ⌜ r ≡ isWilling self i ⌝ }
-    {
-        row::has_bit(self.willing, i)
     }
 }

@@ -1,44 +1,44 @@
-use borrow.Author.Tests.{le-ltb}
-use Rattle.play.specs.Calls.{refuse}
-use Rattle.play.specs.Calls.{playedOf}
-use borrow.Author.Tests.{lt-ltb}
+use borrow.Author.Tests.{lt-ltb, le-ltb}
+use denote.Ref.{now}
+use Rattle.play.specs.CallLaws.{refused-acts}
 use Rattle.play.specs.Commands.{deliverCall}
+use Rattle.play.specs.Changes.{Acts, worldOf}
 use borrow.Author.Needs.{needs}
 use Rattle.play.proofs.commands.deliver.Statement.{statement}
 use Rattle.play.proofs.commands.deliver.Tie as tie
 use Rattle.play.proofs.commands.deliver.Reads as reads
 use Rattle.play.proofs.commands.deliver.Lts as lts
 use Rattle.play.proofs.commands.deliver_row.Reads as deliver-row-reads
+use Rattle.play.proofs.enter.refused.Reads as refused-reads
 use Rattle.row.proofs.get_row.Reads as get-row-reads
 
--- src/commands.rt:149:17
+-- src/commands.rt:122:13
 get-row-requires : tie.Need-get-row-requires
 get-row-requires c κs = search needs
 
--- src/commands.rt:150:13
+-- src/commands.rt:123:9
 deliver-row-requires : tie.Need-deliver-row-requires
 deliver-row-requires c κs = search needs
 
--- src/commands.rt:150:13
+-- src/commands.rt:123:9
 same-length : tie.Need-same-length
 same-length c = search needs
 
--- src/commands.rt:150:13
+-- src/commands.rt:123:9
 returns : tie.Need-returns
-unfolding deliverCall
-returns c = (simp (lt-ltb _ _ (c .before .before .before .before .before .before .if2 .taken), lt-ltb _ _ (c .before .before .before .before .before .before .before .before .if1 .taken), ← (c .before .before .before .before .get-row .ensures)) (c .before .before .deliver-row .ensures .0), simp (lt-ltb _ _ (c .before .before .before .before .before .before .if2 .taken), lt-ltb _ _ (c .before .before .before .before .before .before .before .before .if1 .taken), ← (c .before .before .before .before .get-row .ensures)) (c .before .before .deliver-row .ensures .1))
+unfolding Acts deliverCall worldOf
+returns c = λ sites e. simp (lt-ltb _ _ (c .before .before .before .before .before .before .if1 .taken), lt-ltb _ _ (c .before .before .before .before .before .before .before .before .before .pre .1), ← (c .before .before .before .before .get-row .ensures)) (c .before .before .deliver-row .ensures sites e)
 
--- src/commands.rt:152:9
+-- src/commands.rt:125:5
+refused-requires : tie.Need-refused-requires
+refused-requires c κs = search needs
+
+-- src/commands.rt:109:1
 returns-2 : tie.Need-returns-2
-unfolding deliverCall playedOf refuse
-returns-2 c = (simp (le-ltb _ _ (c .if2 .left), lt-ltb _ _ (c .before .before .if1 .taken)), simp (le-ltb _ _ (c .if2 .left), lt-ltb _ _ (c .before .before .if1 .taken)))
-
--- src/commands.rt:142:1
-returns-3 : tie.Need-returns-3
-unfolding deliverCall playedOf refuse
-returns-3 c = (simp (le-ltb _ _ (c .if1 .left)), simp (le-ltb _ _ (c .if1 .left)))
+unfolding Acts deliverCall worldOf
+returns-2 c = λ sites e. simp (le-ltb _ _ (c .before .if1 .left), lt-ltb _ _ (c .before .before .before .before .pre .1), c .refused .ensures) (refused-acts 9 (c .before .before .before .before .args .head) (c .before .before .before .before .args .own) (c .before .before .before .before .args .site) (now (c .before .before .before .before .args .store)) (c .before .before .before .before .args .at) sites e)
 
 pub deliver-spec : {M : Type 1} → statement M
 deliver-spec =
     tie.close
-    (tie.spec get-row-requires deliver-row-requires same-length returns returns-2 returns-3)
+    (tie.spec get-row-requires deliver-row-requires same-length returns refused-requires returns-2)

@@ -1,70 +1,49 @@
-use borrow.Author.Tests.{le-ltb}
-use Rattle.play.specs.Calls.{refuse}
-use borrow.Author.Tests.{ne-eqb}
-use borrow.Author.Tests.{lt-ltb}
-use Rattle.play.specs.Calls.{enterRow}
-use borrow.Author.Tests.{eq-eqb}
-use Rattle.play.specs.Calls.{enterSilent}
-use Rattle.play.specs.Calls.{playedOf}
-use Rattle.play.specs.Calls.{enter}
+use denote.Ref.{now}
+use Rattle.play.specs.CallLaws.{refused-acts}
+use Rattle.world.specs.Worlds.{withSite, withRows}
+use borrow.Author.Tests.{lt-ltb, le-ltb, eq-eqb, ne-eqb}
+use Rattle.play.specs.Calls.{enter, enterSilent, enterRow, refuse, playedOf}
+use Rattle.play.specs.Changes.{Acts, changed, worldOf}
 use borrow.Author.Needs.{needs}
 use Rattle.play.proofs.enter.enter.Statement.{statement}
 use Rattle.play.proofs.enter.enter.Tie as tie
 use Rattle.play.proofs.enter.enter.Reads as reads
 use Rattle.play.proofs.enter.enter.Lts as lts
+use Rattle.play.proofs.enter.refused.Reads as refused-reads
 use Rattle.row.proofs.put_row.Reads as put-row-reads
-use Rattle.world.proofs.World.put_rows.Reads as put-rows-reads
-use Rattle.world.proofs.World.put_site.Reads as put-site-reads
 
--- src/enter.rt:24:20
-put-site-requires : tie.Need-put-site-requires
-put-site-requires c κs = search needs
-
--- src/enter.rt:22:9
+-- src/enter.rt:41:9
 returns : tie.Need-returns
-unfolding enter playedOf enterSilent
-returns c = (λ records. simp (eq-eqb _ _ (c .before .if1 .taken), c .put-site .ensures), λ records. simp (eq-eqb _ _ (c .before .if1 .taken)))
+unfolding Acts changed worldOf enter enterSilent playedOf withSite withRows
+returns c = λ records sites e. (simp (eq-eqb _ _ (c .if1 .taken)), simp (eq-eqb _ _ (c .if1 .taken)))
 
--- src/enter.rt:29:9
+-- src/enter.rt:49:9
 put-row-requires : tie.Need-put-row-requires
 put-row-requires c κs = search needs
 
--- src/enter.rt:32:20
-put-site-requires-2 : tie.Need-put-site-requires-2
-put-site-requires-2 c κs = search needs
+-- src/enter.rt:53:19
+add-t15 : tie.Need-add-t15
+add-t15 c = search needs
 
--- src/enter.rt:32:55
-add-put-rows : tie.Need-add-put-rows
-add-put-rows c = search needs
-
--- src/enter.rt:32:20
-put-rows-requires : tie.Need-put-rows-requires
-put-rows-requires c κs = search needs
-
--- src/enter.rt:30:9
+-- src/enter.rt:50:9
 same-length : tie.Need-same-length
 same-length c = search needs
 
--- src/enter.rt:30:9
+-- src/enter.rt:50:9
 returns-2 : tie.Need-returns-2
-unfolding enter playedOf enterRow
-returns-2 c = (λ records. simp (lt-ltb _ _ (c .before .before .before .before .before .before .if2 .taken), ne-eqb _ _ (c .before .before .before .before .before .before .before .if1 .left), c .put-rows .ensures, c .before .put-site2 .ensures), λ records. simp (lt-ltb _ _ (c .before .before .before .before .before .before .if2 .taken), ne-eqb _ _ (c .before .before .before .before .before .before .before .if1 .left)) (c .before .before .before .before .put-row .ensures))
+unfolding Acts changed worldOf enter enterRow playedOf withSite withRows
+returns-2 c = λ records sites e. (simp (lt-ltb _ _ (c .before .before .before .before .if2 .taken), ne-eqb _ _ (c .before .before .before .before .before .if1 .left)), simp (lt-ltb _ _ (c .before .before .before .before .if2 .taken), ne-eqb _ _ (c .before .before .before .before .before .if1 .left)) (c .before .before .put-row .ensures))
 
--- src/enter.rt:13:1
+-- src/enter.rt:57:5
+refused-requires : tie.Need-refused-requires
+refused-requires c κs = search needs
+
+-- src/enter.rt:25:1
 returns-3 : tie.Need-returns-3
-unfolding enter playedOf refuse
-returns-3 c = (λ records. simp (le-ltb _ _ (c .if2 .left), ne-eqb _ _ (c .before .if1 .left)), λ records. simp (le-ltb _ _ (c .if2 .left), ne-eqb _ _ (c .before .if1 .left)))
+unfolding Acts enter worldOf
+returns-3 c = λ records sites e. simp (le-ltb _ _ (c .before .if2 .left), ne-eqb _ _ (c .before .before .if1 .left), c .refused .ensures) (refused-acts 15 (c .before .before .before .before .before .before .before .args .head) (c .before .before .before .before .before .before .before .args .own) (c .before .before .before .before .before .before .before .args .site) (now (c .before .before .before .before .before .before .before .args .store)) (c .before .before .before .before .before .before .before .args .at) sites e)
 
 pub enter-spec : {M : Type 1} → statement M
 enter-spec =
     tie.close
-    (tie.spec
-    put-site-requires
-    returns
-    put-row-requires
-    put-site-requires-2
-    add-put-rows
-    put-rows-requires
-    same-length
-    returns-2
-    returns-3)
+    (tie.spec returns put-row-requires add-t15 same-length returns-2 refused-requires returns-3)

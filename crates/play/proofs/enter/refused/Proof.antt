@@ -1,0 +1,15 @@
+use mathlib.Core.Path.{refl}
+use Rattle.play.specs.Changes.{refusedChange}
+use borrow.Author.Needs.{needs}
+use Rattle.play.proofs.enter.refused.Statement.{statement}
+use Rattle.play.proofs.enter.refused.Tie as tie
+use Rattle.play.proofs.enter.refused.Reads as reads
+use Rattle.play.proofs.enter.refused.Lts as lts
+
+-- src/enter.rt:13:1
+returns : tie.Need-returns
+unfolding refusedChange
+returns c = refl
+
+pub refused-spec : {M : Type 1} → statement M
+refused-spec = tie.close (tie.spec returns)
