@@ -40,13 +40,13 @@ module _ (p : Play) (w : World) (store list : List ℕ) (at events : ℕ) (r : P
 
 -- a turn's call may be made
 pub may-act :
-    (p : Play) (sites : List Site) (h : Head) (store list : List ℕ) (at events : ℕ) →
+    {p : Play} (sites : List Site) (h : Head) {store list : List ℕ} {at events : ℕ} →
     Underway p (worldOf sites h) store list at events → Ready h store
 unfolding headOf worldOf
-may-act p sites h store list at events u = ready (worldOf sites h) store (u .room) (u .valid)
+may-act sites h {store} u = ready (worldOf sites h) store (u .room) (u .valid)
 
-module _ (p : Play) (sites : List Site) (h : Head) (store list : List ℕ) (at events : ℕ) (reading : Reading) (own : ℕ)
-    (s : Site) (c : Change) (after : List ℕ) (u : Underway p (worldOf sites h) store list at events)
+module _ {p : Play} (sites : List Site) (h : Head) {store list : List ℕ} {at events : ℕ} {reading : Reading} {own : ℕ}
+    {s : Site} (c : Change) (after : List ℕ) (u : Underway p (worldOf sites h) store list at events)
     (left : at < length list) (e : reading ≡ readCommand list at) (f : own ≡ actor reading (h .n))
     (g : s ≡ siteOf (worldOf sites h) own)
     (acts : Acts h (actor reading (h .n)) s c after (λ w. performRead reading w store at)) where

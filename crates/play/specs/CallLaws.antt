@@ -1,10 +1,11 @@
 -- Laws of the calls, and of the changes that they amount to.
-use Prim.Native.Nat.{ℕ, zero, suc, _≤_, _<_}
+use Prim.Native.Nat.{ℕ, _≤_, _<_}
 use mathlib.Core.Bool.{true, false}
-use mathlib.Core.List.{List, [], _∷_}
+use mathlib.Core.List.{List}
 use mathlib.Core.Path.{_≡_, refl, ap, sym, _∙_}
 use native.Mathlib.Omega.{arith}
-use lib.ListN.{length, getD, set}
+use lib.ListN.{length, set}
+use lib.Seq.{set-getD}
 use borrow.Author.Tests.{lt-ltb, le-ltb}
 use Rattle.site.specs.declared.Site.{Site}
 use Rattle.site.specs.Fields.{blankSite}
@@ -37,12 +38,6 @@ ready w store room valid =
       room = room;
     }
 
--- what is held at a place put there again
-set-held {ℓ} : {A : Type ℓ} (l : List A) (i : ℕ) (d : A) → set l i (getD l i d) ≡ l
-set-held [] i d = refl
-set-held (x ∷ xs) zero d = refl
-set-held (x ∷ xs) (suc i) d = ap (λ l. x ∷ l) (set-held xs i d)
-
 -- a refusal changes nothing
 pub refused-acts :
     (number : ℕ) (h : Head) (i : ℕ) (s : Site) (store : List ℕ) (at : ℕ) →
@@ -50,7 +45,7 @@ pub refused-acts :
 unfolding Acts refusedChange refuse playedOf changed withRows withSite siteOf worldOf
 refused-acts number h i s store at sites e = (
   ap (λ l. record { number = number; world = worldOf l h; place = at })
-      (ap (λ x. set sites i x) (sym e) ∙ set-held sites i (blankSite false)),
+      (ap (λ x. set sites i x) (sym e) ∙ set-getD sites i (blankSite false)),
   refl,
 )
 

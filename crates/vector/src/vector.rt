@@ -1,34 +1,37 @@
 // Loops over the sixteen entries of a vector; each turn is a named function.
 ghost use mathlib.Core.Path.{_≡_};
 ghost use Prim.Native.Nat.{_+_, _<_, _≤_};
-ghost use Rattle.choice.specs.Choice.{both};
-ghost use Rattle.vector.specs.Vector.{mergeEntry, entryWeight, merge as mergeOf, count as countOf, firstOutcome, lowestOutcome, validEntry, validVector};
+ghost use lib.Dec.{ltb};
+ghost use Rattle.choice.specs.Choice.{pick, both};
+ghost use Rattle.vector.specs.Codes.{level};
+ghost use Rattle.vector.specs.Vector.{entryWeight, merge as mergeOf, count as countOf, firstOutcome, lowestOutcome, validEntry, validVector};
 use crate::codes::is_outcome;
 use crate::codes::level;
 
-fn merge_entry(own: usize, k: usize, held: u8, said: u8) -> u8
-    ensures { λ r. ⌜ r ≡ mergeEntry own k held said ⌝ }
+// The code of the higher level, the one held where they are level.
+fn louder(held: u8, said: u8) -> u8
+    ensures { λ r. ⌜ r ≡ pick (ltb (level held) (level said)) said held ⌝ }
 {
-    if k == own {
-        return held;
-    }
     if level(held) < level(said) {
         return said;
     }
     held
 }
 
-// The vector held, merged with what a row says, for every site below n but the receiver.
+// The vector held, merged with what a row says, for every site below n but the receiver: its own entry is put back at the end, so
+// that each turn does the same.
 pub fn merge(n: usize, own: usize, said: [u8; 16], held: [u8; 16]) -> [u8; 16]
-    requires { ⌜ n ≤ 16 ⌝ }
+    requires { ⌜ (n ≤ 16) × (own < n) ⌝ }
     ensures { λ r. ⌜ r ≡ mergeOf n own said held ⌝ }
 {
+    let kept = held[own];
     let mut codes = held;
     let mut k = 0;
     while k < n {
-        codes[k] = merge_entry(own, k, codes[k], said[k]);
+        codes[k] = louder(codes[k], said[k]);
         k += 1;
     }
+    codes[own] = kept;
     codes
 }
 

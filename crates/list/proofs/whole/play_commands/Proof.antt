@@ -42,19 +42,19 @@ read-command-requires c κs = search needs
 
 -- src/whole.rt:24:13
 actor-requires : tie.Need-actor-requires Inv-loop μ-loop
-actor-requires c κs = omega (arith, (may-act (playList (now (c .before .before .before .before .before .before .before .args .store)) (now (c .before .before .before .before .before .before .before .args .list))) (c .before .before .loop .sites) (c .before .before .loop .head) (c .before .before .loop .store) (now (c .before .before .before .before .before .before .before .args .list)) (c .before .before .loop .at) (c .before .before .loop .events) (c .before .before .loop .inv .0)) .low)
+actor-requires c κs = omega (arith, may-act (c .before .before .loop .sites) (c .before .before .loop .head) (c .before .before .loop .inv .0) .low)
 
 -- src/whole.rt:25:20
 mul-site : tie.Need-mul-site Inv-loop μ-loop
-mul-site c = omega (arith, c .actor .ensures .1, (may-act (playList (now (c .before .before .before .before .before .before .before .before .args .store)) (now (c .before .before .before .before .before .before .before .before .args .list))) (c .before .before .before .loop .sites) (c .before .before .before .loop .head) (c .before .before .before .loop .store) (now (c .before .before .before .before .before .before .before .before .args .list)) (c .before .before .before .loop .at) (c .before .before .before .loop .events) (c .before .before .before .loop .inv .0)) .high)
+mul-site c = omega (arith, c .actor .ensures .1, may-act (c .before .before .before .loop .sites) (c .before .before .before .loop .head) (c .before .before .before .loop .inv .0) .high)
 
 -- src/whole.rt:25:20
 array-copy-out-site : tie.Need-array-copy-out-site Inv-loop μ-loop
-array-copy-out-site c = omega (arith, c .actor .ensures .1, (may-act (playList (now (c .before .before .before .before .before .before .before .before .args .store)) (now (c .before .before .before .before .before .before .before .before .args .list))) (c .before .before .before .loop .sites) (c .before .before .before .loop .head) (c .before .before .before .loop .store) (now (c .before .before .before .before .before .before .before .before .args .list)) (c .before .before .before .loop .at) (c .before .before .before .loop .events) (c .before .before .before .loop .inv .0)) .high)
+array-copy-out-site c = omega (arith, c .actor .ensures .1, may-act (c .before .before .before .loop .sites) (c .before .before .before .loop .head) (c .before .before .before .loop .inv .0) .high)
 
 -- src/whole.rt:26:13
 act-requires : tie.Need-act-requires Inv-loop μ-loop
-act-requires c κs = (may-act (playList (now (c .before .before .before .before .before .before .before .before .before .before .args .store)) (now (c .before .before .before .before .before .before .before .before .before .before .args .list))) (c .before .before .before .before .before .loop .sites) (c .before .before .before .before .before .loop .head) (c .before .before .before .before .before .loop .store) (now (c .before .before .before .before .before .before .before .before .before .before .args .list)) (c .before .before .before .before .before .loop .at) (c .before .before .before .before .before .loop .events) (c .before .before .before .before .before .loop .inv .0))
+act-requires c κs = may-act (c .before .before .before .before .before .loop .sites) (c .before .before .before .before .before .loop .head) (c .before .before .before .before .before .loop .inv .0)
 
 -- src/whole.rt:30:24
 world-of-requires : tie.Need-world-of-requires Inv-loop μ-loop
@@ -67,15 +67,15 @@ same-length c = omega arith
 -- src/whole.rt:28:13
 returns : tie.Need-returns Inv-loop μ-loop
 unfolding worldOf
-returns c = let o = changes-out (playList (now (c .before .before .before .before .before .before .before .before .before .before .before .before .before .before .before .before .args .store)) (now (c .before .before .before .before .before .before .before .before .before .before .before .before .before .before .before .before .args .list))) (c .before .before .before .before .before .before .before .before .before .before .before .loop .sites) (c .before .before .before .before .before .before .before .before .before .before .before .loop .head) (c .before .before .before .before .before .before .before .before .before .before .before .loop .store) (now (c .before .before .before .before .before .before .before .before .before .before .before .before .before .before .before .before .args .list)) (c .before .before .before .before .before .before .before .before .before .before .before .loop .at) (c .before .before .before .before .before .before .before .before .before .before .before .loop .events) (c .before .before .before .before .before .before .before .before .before .read-command .result) (c .before .before .before .before .before .before .before .before .actor .result) _ (c .before .before .before .before .before .act .result) (c .before .before .before .before .before .act .last .1 .1 .1 .0) (c .before .before .before .before .before .before .before .before .before .before .before .loop .inv .0) (c .before .before .before .before .before .before .before .before .before .before .loop-test .taken) (c .before .before .before .before .before .before .before .before .before .read-command .ensures) (c .before .before .before .before .before .before .before .before .actor .ensures .0) (siteOf-within (worldOf (c .before .before .before .before .before .before .before .before .before .before .before .loop .sites) (c .before .before .before .before .before .before .before .before .before .before .before .loop .head)) (c .before .before .before .before .before .before .before .before .actor .result) _ (omega (arith, c .before .before .before .before .before .before .before .before .actor .ensures .1, (may-act (playList (now (c .before .before .before .before .before .before .before .before .before .before .before .before .before .before .before .before .args .store)) (now (c .before .before .before .before .before .before .before .before .before .before .before .before .before .before .before .before .args .list))) (c .before .before .before .before .before .before .before .before .before .before .before .loop .sites) (c .before .before .before .before .before .before .before .before .before .before .before .loop .head) (c .before .before .before .before .before .before .before .before .before .before .before .loop .store) (now (c .before .before .before .before .before .before .before .before .before .before .before .before .before .before .before .before .args .list)) (c .before .before .before .before .before .before .before .before .before .before .before .loop .at) (c .before .before .before .before .before .before .before .before .before .before .before .loop .events) (c .before .before .before .before .before .before .before .before .before .before .before .loop .inv .0)) .high, c .before .before .before .before .before .before .before .before .before .before .before .loop .inv .0 .shaped .sites))) (c .before .before .before .before .before .act .ensures) (c .before .if1 .taken) in rw (c .world-of .ensures) (o .played, o .kept)
+returns c = let o = changes-out (c .before .before .before .before .before .before .before .before .before .before .before .loop .sites) (c .before .before .before .before .before .before .before .before .before .before .before .loop .head) (c .before .before .before .before .before .act .result) (c .before .before .before .before .before .act .last .1 .1 .1 .0) (c .before .before .before .before .before .before .before .before .before .before .before .loop .inv .0) (c .before .before .before .before .before .before .before .before .before .before .loop-test .taken) (c .before .before .before .before .before .before .before .before .before .read-command .ensures) (c .before .before .before .before .before .before .before .before .actor .ensures .0) (siteOf-within (worldOf (c .before .before .before .before .before .before .before .before .before .before .before .loop .sites) (c .before .before .before .before .before .before .before .before .before .before .before .loop .head)) _ _ (omega (arith, c .before .before .before .before .before .before .before .before .actor .ensures .1, may-act (c .before .before .before .before .before .before .before .before .before .before .before .loop .sites) (c .before .before .before .before .before .before .before .before .before .before .before .loop .head) (c .before .before .before .before .before .before .before .before .before .before .before .loop .inv .0) .high, c .before .before .before .before .before .before .before .before .before .before .before .loop .inv .0 .shaped .sites))) (c .before .before .before .before .before .act .ensures) (c .before .if1 .taken) in rw (c .world-of .ensures) (o .played, o .kept)
 
 -- src/whole.rt:36:9
 mul-sites : tie.Need-mul-sites Inv-loop μ-loop
-mul-sites c = omega (arith, c .before .before .before .before .before .before .before .before .actor .ensures .1, (may-act (playList (now (c .before .before .before .before .before .before .before .before .before .before .before .before .before .before .before .before .args .store)) (now (c .before .before .before .before .before .before .before .before .before .before .before .before .before .before .before .before .args .list))) (c .before .before .before .before .before .before .before .before .before .before .before .loop .sites) (c .before .before .before .before .before .before .before .before .before .before .before .loop .head) (c .before .before .before .before .before .before .before .before .before .before .before .loop .store) (now (c .before .before .before .before .before .before .before .before .before .before .before .before .before .before .before .before .args .list)) (c .before .before .before .before .before .before .before .before .before .before .before .loop .at) (c .before .before .before .before .before .before .before .before .before .before .before .loop .events) (c .before .before .before .before .before .before .before .before .before .before .before .loop .inv .0)) .high)
+mul-sites c = omega (arith, c .before .before .before .before .before .before .before .before .actor .ensures .1, may-act (c .before .before .before .before .before .before .before .before .before .before .before .loop .sites) (c .before .before .before .before .before .before .before .before .before .before .before .loop .head) (c .before .before .before .before .before .before .before .before .before .before .before .loop .inv .0) .high)
 
 -- src/whole.rt:36:9
 array-set-from-sites : tie.Need-array-set-from-sites Inv-loop μ-loop
-array-set-from-sites c = omega (arith, c .before .before .before .before .before .before .before .before .actor .ensures .1, (may-act (playList (now (c .before .before .before .before .before .before .before .before .before .before .before .before .before .before .before .before .args .store)) (now (c .before .before .before .before .before .before .before .before .before .before .before .before .before .before .before .before .args .list))) (c .before .before .before .before .before .before .before .before .before .before .before .loop .sites) (c .before .before .before .before .before .before .before .before .before .before .before .loop .head) (c .before .before .before .before .before .before .before .before .before .before .before .loop .store) (now (c .before .before .before .before .before .before .before .before .before .before .before .before .before .before .before .before .args .list)) (c .before .before .before .before .before .before .before .before .before .before .before .loop .at) (c .before .before .before .before .before .before .before .before .before .before .before .loop .events) (c .before .before .before .before .before .before .before .before .before .before .before .loop .inv .0)) .high)
+array-set-from-sites c = omega (arith, c .before .before .before .before .before .before .before .before .actor .ensures .1, may-act (c .before .before .before .before .before .before .before .before .before .before .before .loop .sites) (c .before .before .before .before .before .before .before .before .before .before .before .loop .head) (c .before .before .before .before .before .before .before .before .before .before .before .loop .inv .0) .high)
 
 -- src/whole.rt:39:9
 add-events : tie.Need-add-events Inv-loop μ-loop
@@ -84,12 +84,12 @@ add-events c = let l = headed (now (c .before .before .before .before .before .b
 -- src/whole.rt:22:5
 loop-less : tie.Need-loop-less Inv-loop μ-loop
 unfolding worldOf
-loop-less c = let h = changes-past (playList (now (c .before .before .before .before .before .before .before .before .before .before .before .before .before .before .before .before .args .store)) (now (c .before .before .before .before .before .before .before .before .before .before .before .before .before .before .before .before .args .list))) (c .before .before .before .before .before .before .before .before .before .before .before .loop .sites) (c .before .before .before .before .before .before .before .before .before .before .before .loop .head) (c .before .before .before .before .before .before .before .before .before .before .before .loop .store) (now (c .before .before .before .before .before .before .before .before .before .before .before .before .before .before .before .before .args .list)) (c .before .before .before .before .before .before .before .before .before .before .before .loop .at) (c .before .before .before .before .before .before .before .before .before .before .before .loop .events) (c .before .before .before .before .before .before .before .before .before .read-command .result) (c .before .before .before .before .before .before .before .before .actor .result) _ (c .before .before .before .before .before .act .result) (c .before .before .before .before .before .act .last .1 .1 .1 .0) (c .before .before .before .before .before .before .before .before .before .before .before .loop .inv .0) (c .before .before .before .before .before .before .before .before .before .before .loop-test .taken) (c .before .before .before .before .before .before .before .before .before .read-command .ensures) (c .before .before .before .before .before .before .before .before .actor .ensures .0) (siteOf-within (worldOf (c .before .before .before .before .before .before .before .before .before .before .before .loop .sites) (c .before .before .before .before .before .before .before .before .before .before .before .loop .head)) (c .before .before .before .before .before .before .before .before .actor .result) _ (omega (arith, c .before .before .before .before .before .before .before .before .actor .ensures .1, (may-act (playList (now (c .before .before .before .before .before .before .before .before .before .before .before .before .before .before .before .before .args .store)) (now (c .before .before .before .before .before .before .before .before .before .before .before .before .before .before .before .before .args .list))) (c .before .before .before .before .before .before .before .before .before .before .before .loop .sites) (c .before .before .before .before .before .before .before .before .before .before .before .loop .head) (c .before .before .before .before .before .before .before .before .before .before .before .loop .store) (now (c .before .before .before .before .before .before .before .before .before .before .before .before .before .before .before .before .args .list)) (c .before .before .before .before .before .before .before .before .before .before .before .loop .at) (c .before .before .before .before .before .before .before .before .before .before .before .loop .events) (c .before .before .before .before .before .before .before .before .before .before .before .loop .inv .0)) .high, c .before .before .before .before .before .before .before .before .before .before .before .loop .inv .0 .shaped .sites))) (c .before .before .before .before .before .act .ensures) (c .before .if1 .left) in omega arith
+loop-less c = let h = changes-past (c .before .before .before .before .before .before .before .before .before .before .before .loop .sites) (c .before .before .before .before .before .before .before .before .before .before .before .loop .head) (c .before .before .before .before .before .act .result) (c .before .before .before .before .before .act .last .1 .1 .1 .0) (c .before .before .before .before .before .before .before .before .before .before .before .loop .inv .0) (c .before .before .before .before .before .before .before .before .before .before .loop-test .taken) (c .before .before .before .before .before .before .before .before .before .read-command .ensures) (c .before .before .before .before .before .before .before .before .actor .ensures .0) (siteOf-within (worldOf (c .before .before .before .before .before .before .before .before .before .before .before .loop .sites) (c .before .before .before .before .before .before .before .before .before .before .before .loop .head)) _ _ (omega (arith, c .before .before .before .before .before .before .before .before .actor .ensures .1, may-act (c .before .before .before .before .before .before .before .before .before .before .before .loop .sites) (c .before .before .before .before .before .before .before .before .before .before .before .loop .head) (c .before .before .before .before .before .before .before .before .before .before .before .loop .inv .0) .high, c .before .before .before .before .before .before .before .before .before .before .before .loop .inv .0 .shaped .sites))) (c .before .before .before .before .before .act .ensures) (c .before .if1 .left) in omega arith
 
 -- src/whole.rt:22:5
 loop-again : tie.Need-loop-again Inv-loop μ-loop
 unfolding worldOf changed withRows withSite
-loop-again c = (changes-on (playList (now (c .before .before .before .before .before .before .before .before .before .before .before .before .before .before .before .before .args .store)) (now (c .before .before .before .before .before .before .before .before .before .before .before .before .before .before .before .before .args .list))) (c .before .before .before .before .before .before .before .before .before .before .before .loop .sites) (c .before .before .before .before .before .before .before .before .before .before .before .loop .head) (c .before .before .before .before .before .before .before .before .before .before .before .loop .store) (now (c .before .before .before .before .before .before .before .before .before .before .before .before .before .before .before .before .args .list)) (c .before .before .before .before .before .before .before .before .before .before .before .loop .at) (c .before .before .before .before .before .before .before .before .before .before .before .loop .events) (c .before .before .before .before .before .before .before .before .before .read-command .result) (c .before .before .before .before .before .before .before .before .actor .result) _ (c .before .before .before .before .before .act .result) (c .before .before .before .before .before .act .last .1 .1 .1 .0) (c .before .before .before .before .before .before .before .before .before .before .before .loop .inv .0) (c .before .before .before .before .before .before .before .before .before .before .loop-test .taken) (c .before .before .before .before .before .before .before .before .before .read-command .ensures) (c .before .before .before .before .before .before .before .before .actor .ensures .0) (siteOf-within (worldOf (c .before .before .before .before .before .before .before .before .before .before .before .loop .sites) (c .before .before .before .before .before .before .before .before .before .before .before .loop .head)) (c .before .before .before .before .before .before .before .before .actor .result) _ (omega (arith, c .before .before .before .before .before .before .before .before .actor .ensures .1, (may-act (playList (now (c .before .before .before .before .before .before .before .before .before .before .before .before .before .before .before .before .args .store)) (now (c .before .before .before .before .before .before .before .before .before .before .before .before .before .before .before .before .args .list))) (c .before .before .before .before .before .before .before .before .before .before .before .loop .sites) (c .before .before .before .before .before .before .before .before .before .before .before .loop .head) (c .before .before .before .before .before .before .before .before .before .before .before .loop .store) (now (c .before .before .before .before .before .before .before .before .before .before .before .before .before .before .before .before .args .list)) (c .before .before .before .before .before .before .before .before .before .before .before .loop .at) (c .before .before .before .before .before .before .before .before .before .before .before .loop .events) (c .before .before .before .before .before .before .before .before .before .before .before .loop .inv .0)) .high, c .before .before .before .before .before .before .before .before .before .before .before .loop .inv .0 .shaped .sites))) (c .before .before .before .before .before .act .ensures) (c .before .if1 .left), omega arith)
+loop-again c = (changes-on (c .before .before .before .before .before .before .before .before .before .before .before .loop .sites) (c .before .before .before .before .before .before .before .before .before .before .before .loop .head) (c .before .before .before .before .before .act .result) (c .before .before .before .before .before .act .last .1 .1 .1 .0) (c .before .before .before .before .before .before .before .before .before .before .before .loop .inv .0) (c .before .before .before .before .before .before .before .before .before .before .loop-test .taken) (c .before .before .before .before .before .before .before .before .before .read-command .ensures) (c .before .before .before .before .before .before .before .before .actor .ensures .0) (siteOf-within (worldOf (c .before .before .before .before .before .before .before .before .before .before .before .loop .sites) (c .before .before .before .before .before .before .before .before .before .before .before .loop .head)) _ _ (omega (arith, c .before .before .before .before .before .before .before .before .actor .ensures .1, may-act (c .before .before .before .before .before .before .before .before .before .before .before .loop .sites) (c .before .before .before .before .before .before .before .before .before .before .before .loop .head) (c .before .before .before .before .before .before .before .before .before .before .before .loop .inv .0) .high, c .before .before .before .before .before .before .before .before .before .before .before .loop .inv .0 .shaped .sites))) (c .before .before .before .before .before .act .ensures) (c .before .if1 .left), omega arith)
 
 -- src/whole.rt:43:16
 world-of-requires-2 : tie.Need-world-of-requires-2 Inv-loop μ-loop
