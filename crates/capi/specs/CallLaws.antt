@@ -18,33 +18,27 @@ use Rattle.report.specs.Report.{reportValid, untouched, report}
 use Rattle.report.specs.ReportLaws.{report-refused}
 use Rattle.layout.specs.Numbers.{putNumber}
 use Rattle.layout.specs.Layout.{worldBytes, putWorld, worldAt, inLayout}
-use Rattle.capi.specs.Calls.{resultBytes, leave, leavePlay, listCall, leaveCommand, commandCall, leaveBuffer, leaveReport, reportCall}
+use Rattle.capi.specs.Calls.{resultBytes, leave, leavePlay, unfitNumber, listCall, leaveCommand, commandCall, leaveBuffer, leaveReport, reportCall}
 
 -- the list
 
 module _ (list store world result : List ℕ) where
-  pub list-16 : length store < storeBytes → listCall list store world result ≡ leave 16 store world result
+  pub list-unfit-world :
+      (length world ≡ worldBytes → ⊥) → listCall list store world result ≡ leave (unfitNumber (length store)) store world result
   unfolding listCall
-  list-16 short = rw (lt-ltb (length store) storeBytes short)
+  list-unfit-world other = rw (ne-eqb (length world) worldBytes other)
 
-  module _ (room : storeBytes ≤ length store) where
-    pub list-17-world : (length world ≡ worldBytes → ⊥) → listCall list store world result ≡ leave 17 store world result
-    unfolding listCall
-    list-17-world other = rw (le-ltb (length store) storeBytes room, ne-eqb (length world) worldBytes other)
+  pub list-unfit-result :
+      length world ≡ worldBytes → (length result ≡ resultBytes → ⊥) →
+      listCall list store world result ≡ leave (unfitNumber (length store)) store world result
+  unfolding listCall
+  list-unfit-result same other = rw (eq-eqb (length world) worldBytes same, ne-eqb (length result) resultBytes other)
 
-    pub list-17-result :
-        length world ≡ worldBytes → (length result ≡ resultBytes → ⊥) →
-        listCall list store world result ≡ leave 17 store world result
-    unfolding listCall
-    list-17-result same other =
-        rw (le-ltb (length store) storeBytes room, eq-eqb (length world) worldBytes same, ne-eqb (length result) resultBytes other)
-
-    pub list-plays :
-        length world ≡ worldBytes → length result ≡ resultBytes →
-        listCall list store world result ≡ leavePlay (playList store list) world result
-    unfolding listCall
-    list-plays same eight =
-        rw (le-ltb (length store) storeBytes room, eq-eqb (length world) worldBytes same, eq-eqb (length result) resultBytes eight)
+  pub list-plays :
+      length world ≡ worldBytes → length result ≡ resultBytes →
+      listCall list store world result ≡ leavePlay (playList store list) world result
+  unfolding listCall
+  list-plays same eight = rw (eq-eqb (length world) worldBytes same, eq-eqb (length result) resultBytes eight)
 
 -- one command
 

@@ -4,7 +4,7 @@ use Prim.Native.Nat.{ℕ}
 use mathlib.Core.List.{List}
 use lib.Dec.{ltb, eqb}
 use lib.ListN.{length}
-use Rattle.choice.specs.Choice.{pick}
+use Rattle.choice.specs.Choice.{pick, both}
 use Rattle.world.specs.Sizes.{storeBytes}
 use Rattle.play.specs.Calls.{Call}
 use Rattle.play.specs.Commands.{oneCommand}
@@ -38,13 +38,16 @@ leavePlay p world result =
       result = putNumber 4 (putNumber 4 result 0 (p .played .events)) 4 (p .played .place);
     }
 
--- A WHOLE LIST: 16, then 17, then the list's own numbers
+-- for a store of so many bytes, where another buffer has not the length of the layout: 16, then 17
+unfoldable pub unfitNumber : ℕ → ℕ
+unfitNumber bytes = pick (ltb bytes storeBytes) 16 17
+
+-- A WHOLE LIST: 16, then 17, then the list's own numbers. At 16 too the play's answer, the world of zeros, is written where it fits
 unfoldable pub listCall : List ℕ → List ℕ → List ℕ → List ℕ → PlayLeft
 listCall list store world result =
-    pick (ltb (length store) storeBytes) (leave 16 store world result)
-    (pick (eqb (length world) worldBytes)
-    (pick (eqb (length result) resultBytes) (leavePlay (playList store list) world result) (leave 17 store world result))
-    (leave 17 store world result))
+    pick (both (eqb (length world) worldBytes) (eqb (length result) resultBytes))
+    (leavePlay (playList store list) world result)
+    (leave (unfitNumber (length store)) store world result)
 
 -- an accepted command's store, world and next place (64 bits); a refused command leaves every buffer
 unfoldable pub leaveCommand : Call → List ℕ → List ℕ → List ℕ → PlayLeft

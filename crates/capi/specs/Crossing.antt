@@ -5,9 +5,9 @@ use mathlib.Core.List.{List}
 use mathlib.Core.Path.{_≡_}
 use lib.ListN.{length}
 use Rattle.world.specs.declared.World.{World}
-use Rattle.world.specs.Sizes.{storeBytes}
+use Rattle.world.specs.Sizes.{listBytes}
 use Rattle.play.specs.Commands.{oneCommand}
-use Rattle.list.specs.Play.{listBytes, playList}
+use Rattle.list.specs.Play.{playList}
 use Rattle.layout.specs.Layout.{worldBytes, worldAt, inLayout}
 use Rattle.capi.specs.Calls.{resultBytes, listCall, commandCall}
 
@@ -16,10 +16,10 @@ pub record Holds (bytes : List ℕ) (w : World) : Type 0 where
   pub inside : inLayout bytes ≡ true
   pub same : worldAt bytes ≡ w
 
--- a list that neither 16 nor 17 refuses
+-- any list, where the buffers have the layout's lengths
 abbrev pub ListCrosses : Type 0
 ListCrosses =
-    (list store world result : List ℕ) → storeBytes ≤ length store → length world ≡ worldBytes → length result ≡ resultBytes →
+    (list store world result : List ℕ) → length world ≡ worldBytes → length result ≡ resultBytes →
     Holds (listCall list store world result .world) (playList store list .played .world)
 
 -- an accepted command

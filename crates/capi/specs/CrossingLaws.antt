@@ -119,8 +119,8 @@ holds b w same f =
 -- THEOREM: what a list's play gives is what the next call reads
 pub list-crosses : ListCrosses
 unfolding leavePlay
-list-crosses list store world result room same eight =
-    rw (list-plays list store world result room same eight)
+list-crosses list store world result same eight =
+    rw (list-plays list store world result same eight)
     (holds world (playList store list .played .world) same (list-crossing store list .world))
 
 -- only a world that passes 17 has a command accepted

@@ -1,12 +1,25 @@
 // The calls offered to C, on byte slices and numbers. docs/LAYOUT.md has the bytes; include/quorum.h says how to call.
 ghost use mathlib.Core.Path.{_≡_};
-ghost use Rattle.capi.specs.Calls.{listCall, commandCall, reportCall};
+ghost use Rattle.capi.specs.Calls.{unfitNumber, listCall, commandCall, reportCall};
 use world::World;
+
+// The length of every result buffer.
+const RESULT_BYTES: usize = 8;
 
 fn number_of(number: u8) -> u32
     ensures { λ r. ⌜ r ≡ number ⌝ }
 {
     number as u32
+}
+
+// For a store of so many bytes, where another buffer has not the length of the layout: 16, then 17.
+fn unfit_number(bytes: usize) -> u32
+    ensures { λ r. ⌜ r ≡ unfitNumber bytes ⌝ }
+{
+    if bytes < World::STORE_BYTES {
+        return 16;
+    }
+    17
 }
 
 // A whole list.
@@ -22,14 +35,11 @@ pub extern "C" fn qc_play_list(
     ensures { λ _. ⌜ now (world .exit) ≡ listCall (now (list .entry)) (now (store .entry)) (now (world .entry)) (now (result .entry)) .world ⌝ }
     ensures { λ _. ⌜ now (result .exit) ≡ listCall (now (list .entry)) (now (store .entry)) (now (world .entry)) (now (result .entry)) .result ⌝ }
 {
-    if store.len() < World::STORE_BYTES {
-        return 16;
+    if world.len() != layout::WORLD_BYTES {
+        return unfit_number(store.len());
     }
-    if world.len() != 656 {
-        return 17;
-    }
-    if result.len() != 8 {
-        return 17;
+    if result.len() != RESULT_BYTES {
+        return unfit_number(store.len());
     }
     let played = list::play_list(store, list);
     let after = played.world;
@@ -56,7 +66,7 @@ pub extern "C" fn qc_play_command(
     if store.len() < World::STORE_BYTES {
         return 16;
     }
-    if result.len() != 8 {
+    if result.len() != RESULT_BYTES {
         return 17;
     }
     if !layout::in_layout(world) {
@@ -87,13 +97,13 @@ pub extern "C" fn qc_report(
     ensures { λ _. ⌜ now (buffer .exit) ≡ reportCall (now (world .entry)) events number place (now (buffer .entry)) (now (result .entry)) .buffer ⌝ }
     ensures { λ _. ⌜ now (result .exit) ≡ reportCall (now (world .entry)) events number place (now (buffer .entry)) (now (result .entry)) .result ⌝ }
 {
-    if result.len() != 8 {
+    if result.len() != RESULT_BYTES {
         return 17;
     }
     if !layout::in_layout(world) {
         return 17;
     }
-    if 18 < number {
+    if report::LAST_NUMBER < number as usize {
         return 17;
     }
     let before = layout::world_at(world);

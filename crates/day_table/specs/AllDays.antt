@@ -1,6 +1,6 @@
 -- THE DAYS HOLD: playing each list of the table by the definitions shows what its line says, all lines by one proof. Each definition
 -- that it computes through is named.
-use mathlib.Core.List.{List, map}
+use mathlib.Core.List.{map}
 use mathlib.Core.Path.{_≡_, refl}
 use Rattle.vector.specs.Codes.{level, isOutcome}
 use Rattle.vector.specs.Vector.{mergeEntry, merge, entryWeight, weigh, siteWeight, count, firstOutcome, lowestOutcome, validEntry, validEntries, validVector}

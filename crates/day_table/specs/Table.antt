@@ -4,7 +4,7 @@
 use Prim.Native.Nat.{ℕ}
 use mathlib.Core.List.{List, [], _∷_, _++_}
 use Rattle.site.specs.Records.{wrote, prepareRecord, groupRecord, outcomeRecord, abort}
-use Rattle.day_table.specs.Shown.{START, DELIVER, TIMEOUT, CRASH, RECOVER, three, Sent, prepare, vote, joinAbort, inGroup, outcome, lines, Shown}
+use Rattle.day_table.specs.Shown.{START, DELIVER, TIMEOUT, CRASH, RECOVER, three, prepare, vote, joinAbort, inGroup, outcome, lines, Shown}
 
 pub record Day : Type 0 where
   pub list : List ℕ

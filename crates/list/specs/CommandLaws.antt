@@ -23,12 +23,6 @@ pub place-after :
 place-after w store list at e =
     (placed w store list at .accepted e .after, placed w store list at .accepted e .within)
 
--- the place where refused
-pub refused-place :
-    (w : World) (store list : List ℕ) (at : ℕ) → (playCommand w store list at .number ≡ 0 → ⊥) →
-    playCommand w store list at .place ≡ at
-refused-place w store list at h = placed w store list at .refused h
-
 pub number-below : (w : World) (store list : List ℕ) (at : ℕ) → playCommand w store list at .number ≤ 15
 number-below w store list at = placed w store list at .small
 

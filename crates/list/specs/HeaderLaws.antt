@@ -8,11 +8,11 @@ use lib.Dec.{ltb, leb}
 use lib.ListN.{length}
 use borrow.Author.Tests.{le-ltb, eq-eqb, ltb-false, leb-true}
 use Rattle.choice.specs.Choice.{pick, pick-ind}
-use Rattle.world.specs.Sizes.{storeBytes, quorumsNumber, sizesNumber}
+use Rattle.world.specs.Sizes.{listBytes, storeBytes, quorumsNumber, sizesNumber}
 use Rattle.world.specs.Valid.{validWorld}
 use Rattle.safety.specs.Claims.{Shaped}
 use Rattle.safety.specs.Shape.{shaped-fresh}
-use Rattle.list.specs.Play.{listBytes, headerOf, headerSizes, headerNumber, headerWorld, playFrom, playList}
+use Rattle.list.specs.Play.{headerOf, headerSizes, headerNumber, headerWorld, playFrom, playList}
 use Rattle.list.specs.FreshValid.{fresh-valid}
 use Rattle.list.specs.PlayLaws.{enough, rest}
 

@@ -1,5 +1,5 @@
 -- The loop's laws, said of the change that one turn of the code makes.
-use Prim.Native.Nat.{ℕ, _+_, _≤_, _<_}
+use Prim.Native.Nat.{ℕ, _+_, _<_}
 use mathlib.Core.List.{List}
 use mathlib.Core.Path.{_≡_, ap, sym, _∙_}
 use lib.ListN.{length}

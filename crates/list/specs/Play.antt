@@ -2,21 +2,16 @@
 -- Refusals: 16 store; 1 length over 32,768; 2 under 5; 3 to 5 sizes.
 use Prim.Native.Nat.{ℕ, zero, suc, _+_, _*_}
 use mathlib.Core.List.{List, [], _∷_}
-use lib.Dec.{ltb, leb, eqb}
+use lib.Dec.{ltb, eqb}
 use lib.ListN.{length, getD}
 use Rattle.choice.specs.Choice.{pick}
 use Rattle.world.specs.declared.World.{World}
-use Rattle.world.specs.Sizes.{storeBytes, sizesNumber}
+use Rattle.world.specs.Sizes.{listBytes, storeBytes, sizesNumber}
 use Rattle.world.specs.Worlds.{zeroWorld, freshWorld}
-use Rattle.play.specs.Calls.{Call}
 use Rattle.play.specs.Commands.{oneCommand}
 use Rattle.play.specs.Run.{Ask}
 use Rattle.list.specs.declared.Header.{Header}
 use Rattle.list.specs.declared.ListPlayed.{ListPlayed}
-
--- a list is at most 32,768 bytes
-abbrev pub listBytes : ℕ
-listBytes = 32768
 
 -- the header's numbers
 unfoldable pub headerOf : List ℕ → Header

@@ -3,7 +3,6 @@ mod headers;
 mod whole;
 
 pub use headers::header_number;
-pub use headers::read_header;
 pub use whole::play_list;
 use world::World;
 

@@ -50,7 +50,7 @@ refused-acts number h i s store at sites e = (
 )
 
 -- a command that names no site below n is refused with 8
-pub unnamed :
+unnamed :
     (command : Command) (w : World) (store : List ℕ) (at next : ℕ) → 0 < w .n → w .n ≤ namedSite command →
     perform command w store at next ≡ refuse 8 w store at
 unfolding perform namedSite deliverCall timeoutCall crashCall recoverCall

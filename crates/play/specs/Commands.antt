@@ -1,9 +1,8 @@
 -- One command: the refusals in the table's order, then the rule.
 -- 16 store too short; 17 world; 6, 7 command byte and operands; 8 to 11 operands; 12 to 14 site; 15 room.
 use Prim.Native.Nat.{ℕ}
-use mathlib.Core.Bool.{Bool, true, false}
 use mathlib.Core.List.{List}
-use lib.Dec.{ltb, leb}
+use lib.Dec.{ltb}
 use lib.ListN.{length}
 use Rattle.choice.specs.Choice.{pick}
 use Rattle.row.specs.declared.Row.{Row}
@@ -11,8 +10,6 @@ use Rattle.row.specs.Bits.{hasBit}
 use Rattle.row.specs.Rows.{getRow, rowKnown}
 use Rattle.site.specs.State.{stateOf, isActive}
 use Rattle.site.specs.Rules.{start, timeout, deliver, crash, recover}
-use Rattle.command.specs.declared.Delivery.{Delivery}
-use Rattle.command.specs.declared.Target.{Target}
 use Rattle.command.specs.declared.Command.{Command}
 use Rattle.command.specs.declared.Command.the-variants as Command·
 use Rattle.command.specs.declared.Reading.{Reading}

@@ -8,6 +8,7 @@ use lib.ListN.{length}
 use lib.Seq.{sets}
 use Rattle.choice.specs.Choice.{pick, both}
 use Rattle.world.specs.declared.World.{World}
+use Rattle.world.specs.Sizes.{listBytes, reportBytes}
 use Rattle.world.specs.Valid.{validWorld}
 use Rattle.report.specs.declared.Reported.{Reported}
 use Rattle.report.specs.Lines.{sizesLine, siteLines, lastLine}
@@ -16,10 +17,14 @@ use Rattle.report.specs.Lines.{sizesLine, siteLines, lastLine}
 unfoldable pub reportText : World → ℕ → ℕ → ℕ → List ℕ
 reportText w events number place = sizesLine w events ++ siteLines (w .n) w ++ lastLine number place
 
--- what 17 asks: the world, the counts, and a stop number of the table, whose last is 18
+-- the table's last number
+abbrev pub lastNumber : ℕ
+lastNumber = 18
+
+-- what 17 asks: the world, the counts, and a stop number that is 0 or in the table
 unfoldable pub reportValid : World → ℕ → ℕ → ℕ → Bool
 reportValid w events number place =
-    both (validWorld w) (both (leb events 32768) (both (leb place 32768) (leb number 18)))
+    both (validWorld w) (both (leb events listBytes) (both (leb place listBytes) (leb number lastNumber)))
 
 -- what the call leaves: its number with the text's length, and the buffer
 pub record Report : Type 0 where
@@ -33,7 +38,7 @@ untouched number buffer = record { reported = record { number = number; length =
 unfoldable pub report : World → ℕ → ℕ → ℕ → List ℕ → Report
 report w events number place buffer =
     pick (reportValid w events number place)
-    (pick (ltb (length buffer) 1024) (untouched 18 buffer)
+    (pick (ltb (length buffer) reportBytes) (untouched 18 buffer)
     (record {
       reported = record { number = 0; length = length (reportText w events number place) };
       buffer = sets buffer 0 (reportText w events number place);

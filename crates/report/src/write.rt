@@ -5,6 +5,7 @@ ghost use Prim.Native.Nat.{_<_, _≤_};
 ghost use lib.ListN.{length};
 ghost use Rattle.text.specs.Written.{Written};
 ghost use Rattle.report.specs.Report.{reportText, reportValid, report};
+use crate::LAST_NUMBER;
 use crate::Reported;
 use crate::lines::put_last;
 use crate::lines::put_sites;
@@ -18,13 +19,13 @@ fn report_valid(world: World, events: usize, number: usize, place: usize) -> boo
     if !world.valid() {
         return false;
     }
-    if 32768 < events {
+    if World::LIST_BYTES < events {
         return false;
     }
-    if 32768 < place {
+    if World::LIST_BYTES < place {
         return false;
     }
-    number <= 18
+    number <= LAST_NUMBER
 }
 
 // The whole text; its length.
@@ -57,7 +58,7 @@ pub fn write_report(
             length: 0,
         };
     }
-    if buffer.len() < 1024 {
+    if buffer.len() < World::REPORT_BYTES {
         return Reported {
             number: 18,
             length: 0,

@@ -1,10 +1,9 @@
 -- Laws of the sets of sites.
-use Prim.Native.Nat.{ℕ, suc, _-_, _*_, _%_, _^_, _≤_, _<_}
-use mathlib.Core.Path.{_≡_, _∙_}
+use Prim.Native.Nat.{ℕ, _-_, _*_, _%_, _^_, _≤_, _<_}
+use mathlib.Core.Path.{_≡_}
 use native.Mathlib.Nat.{mod-eq-of-lt, one-mul}
 use native.Mathlib.Omega.{arith}
-use lib.Pow.{pow-mono, pow-lt, pow-pos}
-use lib.Dec.{lit<}
+use lib.Pow.{pow-mono, pow-lt}
 
 -- a shift of 1 that does not wrap
 pub one-shifted : (k : ℕ) → k < 64 → 1 * 2 ^ k % 2 ^ 64 ≡ 2 ^ k

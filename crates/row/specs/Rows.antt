@@ -3,9 +3,9 @@
 use Prim.Native.Nat.{ℕ, zero, suc, _+_, _*_, _/_, _%_}
 use mathlib.Core.Bool.{Bool, true}
 use mathlib.Core.List.{List}
-use lib.Dec.{ltb, leb, eqb}
+use lib.Dec.{ltb, leb}
 use lib.ListN.{getD, set, replicate}
-use Rattle.choice.specs.Choice.{pick, both}
+use Rattle.choice.specs.Choice.{both}
 use Rattle.row.specs.declared.Row.{Row}
 
 -- no row: kind 0

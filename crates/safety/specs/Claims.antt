@@ -1,19 +1,16 @@
 -- What is claimed of every list of one-command calls. The proofs are elsewhere; this file and the definitions below it are to be believed.
 use Prim.Native.Nat.{ℕ, _+_, _≤_, _<_, min}
-use mathlib.Core.Bool.{Bool, true, false}
+use mathlib.Core.Bool.{true, false}
 use mathlib.Core.List.{List, [], _∷_}
 use mathlib.Core.Path.{_≡_}
 use lib.Dec.{eqb}
 use lib.ListN.{length, getD}
 use Rattle.choice.specs.Choice.{pick, both}
-use Rattle.row.specs.declared.Row.{Row}
 use Rattle.row.specs.Bits.{hasBit}
 use Rattle.row.specs.Rows.{getRow, rowPlace}
-use Rattle.site.specs.declared.Site.{Site}
 use Rattle.site.specs.State.{stateOf, isActive}
 use Rattle.site.specs.Records.{Written, recordCode}
 use Rattle.site.specs.Rules.{hear, adopt}
-use Rattle.command.specs.declared.Reading.{Reading}
 use Rattle.command.specs.declared.Command.the-variants as Command·
 use Rattle.command.specs.declared.Delivery.{Delivery}
 use Rattle.command.specs.Commands.{readCommand, found}

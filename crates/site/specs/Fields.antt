@@ -1,6 +1,6 @@
 -- A site with one field changed, and the site with nothing in it.
 use Prim.Native.Nat.{ℕ}
-use mathlib.Core.Bool.{Bool, true, false}
+use mathlib.Core.Bool.{Bool, false}
 use mathlib.Core.List.{List}
 use lib.ListN.{replicate}
 use Rattle.site.specs.declared.Group.{Group}

@@ -3,7 +3,6 @@ use Prim.Native.Nat.{ℕ}
 use mathlib.Core.Bool.{Bool, true, false}
 use mathlib.Core.List.{List}
 use lib.Dec.{leb}
-use lib.ListN.{replicate}
 use Rattle.vector.specs.Vector.{count}
 use Rattle.site.specs.declared.Group.{Group}
 use Rattle.site.specs.declared.Group.the-variants as Group·

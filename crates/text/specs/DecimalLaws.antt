@@ -43,11 +43,6 @@ decimal-length x =
     simp length-append
     (omega (arith, digit-length 100000 x, digit-length 10000 x, digit-length 1000 x, digit-length 100 x, digit-length 10 x))
 
--- a word and a number
-pub named-length : (word : String) (x : ℕ) → length (named word x) ≤ length (text word) + 6
-unfolding named
-named-length word x = simp length-append (omega (arith, decimal-length x))
-
 -- the digit at a unit, after the number above it
 digit-reads : (unit x : ℕ) → readFrom (x / (unit * 10)) (digitAt unit x) ≡ x / unit
 unfolding readFrom

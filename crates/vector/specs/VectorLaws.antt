@@ -42,7 +42,7 @@ entry-own : (own held said : ℕ) → mergeEntry own own held said ≡ held
 unfolding mergeEntry
 entry-own own held said = simp (eq-eqb own own refl)
 
--- any other is the louder of the two
+-- any other has the code of the higher level
 entry-other :
     (own k held said : ℕ) → (k ≡ own → ⊥) → mergeEntry own k held said ≡ pick (ltb (level held) (level said)) said held
 unfolding mergeEntry

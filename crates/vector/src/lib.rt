@@ -2,8 +2,6 @@
 mod codes;
 mod vector;
 
-pub use codes::is_outcome;
-pub use codes::level;
 pub use vector::count;
 pub use vector::lowest_outcome;
 pub use vector::merge;

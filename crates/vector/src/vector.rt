@@ -8,8 +8,8 @@ ghost use Rattle.vector.specs.Vector.{entryWeight, merge as mergeOf, cou
 use crate::codes::is_outcome;
 use crate::codes::level;
 
-// The code of the higher level, the one held where they are level.
-fn louder(held: u8, said: u8) -> u8
+// The code of the higher level, the one held where the levels are equal.
+fn higher(held: u8, said: u8) -> u8
     ensures { λ r. ⌜ r ≡ pick (ltb (level held) (level said)) said held ⌝ }
 {
     if level(held) < level(said) {
@@ -28,7 +28,7 @@ pub fn merge(n: usize, own: usize, said: [u8; 16], held: [u8; 16]) -> [u8; 16]
     let mut codes = held;
     let mut k = 0;
     while k < n {
-        codes[k] = louder(codes[k], said[k]);
+        codes[k] = higher(codes[k], said[k]);
         k += 1;
     }
     codes[own] = kept;

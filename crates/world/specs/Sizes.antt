@@ -1,17 +1,23 @@
 -- Sizes of a competition. Refusals: 3 n; 4 C or A; 5 willing bit at n or above. Zero: none of them.
 use Prim.Native.Nat.{ℕ, _+_, _^_}
 use lib.Dec.{ltb, leb}
-use Rattle.choice.specs.Choice.{pick, either}
+use Rattle.choice.specs.Choice.{pick}
 
--- at most sixteen sites, rows of a store, bytes of the store
+-- the limits: sites, rows, bytes of a list, of the store of rows and of the report buffer
 abbrev pub maxSites : ℕ
 maxSites = 16
 
 abbrev pub maxRows : ℕ
 maxRows = 1024
 
+abbrev pub listBytes : ℕ
+listBytes = 32768
+
 abbrev pub storeBytes : ℕ
 storeBytes = 20480
+
+abbrev pub reportBytes : ℕ
+reportBytes = 1024
 
 -- C and A: each at most n - 1, and C + A at least n + 1; willing sites below n
 unfoldable pub quorumsNumber : ℕ → ℕ → ℕ → ℕ → ℕ

@@ -1,10 +1,10 @@
 -- The check behind 17, for the world handed in to one command.
 use Prim.Native.Nat.{ℕ, zero, suc}
-use mathlib.Core.Bool.{Bool, true, false}
+use mathlib.Core.Bool.{Bool, true}
 use mathlib.Core.List.{List}
 use lib.Dec.{leb, eqb}
 use lib.ListN.{getD}
-use Rattle.choice.specs.Choice.{pick, both}
+use Rattle.choice.specs.Choice.{both}
 use Rattle.vector.specs.Vector.{validVector}
 use Rattle.site.specs.declared.Group.{Group}
 use Rattle.site.specs.declared.Group.the-variants as Group·

@@ -9,7 +9,7 @@ use Rattle.row.specs.Bits.{hasBit}
 use Rattle.site.specs.declared.Site.{Site}
 use Rattle.site.specs.Fields.{blankSite}
 use Rattle.world.specs.declared.World.{World}
-use Rattle.world.specs.Sizes.{maxSites, sizesNumber}
+use Rattle.world.specs.Sizes.{sizesNumber}
 
 -- every site down, subordinate, log empty
 unfoldable pub downSites : List Site

@@ -18,11 +18,11 @@ use Rattle.play.proofs.one_command.Reads as one-command-reads
 
 returns : tie.Need-returns
 unfolding leave
-returns c = (rw (command-16 (c .before .before .before .before .before .args .world .now) (c .before .before .before .before .before .args .store .now) (c .before .before .before .before .before .args .list .now) (c .before .before .before .before .before .args .at) (c .before .before .before .before .before .args .result .now) (c .if1 .taken)), (rw (command-16 (c .before .before .before .before .before .args .world .now) (c .before .before .before .before .before .args .store .now) (c .before .before .before .before .before .args .list .now) (c .before .before .before .before .before .args .at) (c .before .before .before .before .before .args .result .now) (c .if1 .taken)), (rw (command-16 (c .before .before .before .before .before .args .world .now) (c .before .before .before .before .before .args .store .now) (c .before .before .before .before .before .args .list .now) (c .before .before .before .before .before .args .at) (c .before .before .before .before .before .args .result .now) (c .if1 .taken)), rw (command-16 (c .before .before .before .before .before .args .world .now) (c .before .before .before .before .before .args .store .now) (c .before .before .before .before .before .args .list .now) (c .before .before .before .before .before .args .at) (c .before .before .before .before .before .args .result .now) (c .if1 .taken)))))
+returns c = let e = command-16 (c .before .before .before .before .before .args .world .now) (c .before .before .before .before .before .args .store .now) (c .before .before .before .before .before .args .list .now) (c .before .before .before .before .before .args .at) (c .before .before .before .before .before .args .result .now) (c .if1 .taken) in (rw e, (rw e, (rw e, rw e)))
 
 returns-2 : tie.Need-returns-2
 unfolding leave
-returns-2 c = (rw (command-17-result (c .before .before .before .before .before .before .args .world .now) (c .before .before .before .before .before .before .args .store .now) (c .before .before .before .before .before .before .args .list .now) (c .before .before .before .before .before .before .args .at) (c .before .before .before .before .before .before .args .result .now) (c .before .if1 .left) (c .if2 .taken)), (rw (command-17-result (c .before .before .before .before .before .before .args .world .now) (c .before .before .before .before .before .before .args .store .now) (c .before .before .before .before .before .before .args .list .now) (c .before .before .before .before .before .before .args .at) (c .before .before .before .before .before .before .args .result .now) (c .before .if1 .left) (c .if2 .taken)), (rw (command-17-result (c .before .before .before .before .before .before .args .world .now) (c .before .before .before .before .before .before .args .store .now) (c .before .before .before .before .before .before .args .list .now) (c .before .before .before .before .before .before .args .at) (c .before .before .before .before .before .before .args .result .now) (c .before .if1 .left) (c .if2 .taken)), rw (command-17-result (c .before .before .before .before .before .before .args .world .now) (c .before .before .before .before .before .before .args .store .now) (c .before .before .before .before .before .before .args .list .now) (c .before .before .before .before .before .before .args .at) (c .before .before .before .before .before .before .args .result .now) (c .before .if1 .left) (c .if2 .taken)))))
+returns-2 c = let e = command-17-result (c .before .before .before .before .before .before .args .world .now) (c .before .before .before .before .before .before .args .store .now) (c .before .before .before .before .before .before .args .list .now) (c .before .before .before .before .before .before .args .at) (c .before .before .before .before .before .before .args .result .now) (c .before .if1 .left) (c .if2 .taken) in (rw e, (rw e, (rw e, rw e)))
 
 in-layout-requires : tie.Need-in-layout-requires
 in-layout-requires c κs = search needs
@@ -32,7 +32,7 @@ same-length c = search needs
 
 returns-3 : tie.Need-returns-3
 unfolding leave
-returns-3 c = (rw (command-17-world (c .before .before .before .before .before .before .before .before .before .args .world .now) (c .before .before .before .before .before .before .before .before .before .args .store .now) (c .before .before .before .before .before .before .before .before .before .args .list .now) (c .before .before .before .before .before .before .before .before .before .args .at) (c .before .before .before .before .before .before .before .before .before .args .result .now) (c .before .before .before .before .if1 .left) (c .before .before .before .if2 .left) (sym (c .before .in-layout .ensures) ∙ not-true (c .before .in-layout .result) (c .if3 .taken))), (rw (command-17-world (c .before .before .before .before .before .before .before .before .before .args .world .now) (c .before .before .before .before .before .before .before .before .before .args .store .now) (c .before .before .before .before .before .before .before .before .before .args .list .now) (c .before .before .before .before .before .before .before .before .before .args .at) (c .before .before .before .before .before .before .before .before .before .args .result .now) (c .before .before .before .before .if1 .left) (c .before .before .before .if2 .left) (sym (c .before .in-layout .ensures) ∙ not-true (c .before .in-layout .result) (c .if3 .taken))), (rw (command-17-world (c .before .before .before .before .before .before .before .before .before .args .world .now) (c .before .before .before .before .before .before .before .before .before .args .store .now) (c .before .before .before .before .before .before .before .before .before .args .list .now) (c .before .before .before .before .before .before .before .before .before .args .at) (c .before .before .before .before .before .before .before .before .before .args .result .now) (c .before .before .before .before .if1 .left) (c .before .before .before .if2 .left) (sym (c .before .in-layout .ensures) ∙ not-true (c .before .in-layout .result) (c .if3 .taken))), rw (command-17-world (c .before .before .before .before .before .before .before .before .before .args .world .now) (c .before .before .before .before .before .before .before .before .before .args .store .now) (c .before .before .before .before .before .before .before .before .before .args .list .now) (c .before .before .before .before .before .before .before .before .before .args .at) (c .before .before .before .before .before .before .before .before .before .args .result .now) (c .before .before .before .before .if1 .left) (c .before .before .before .if2 .left) (sym (c .before .in-layout .ensures) ∙ not-true (c .before .in-layout .result) (c .if3 .taken))))))
+returns-3 c = let e = command-17-world (c .before .before .before .before .before .before .before .before .before .args .world .now) (c .before .before .before .before .before .before .before .before .before .args .store .now) (c .before .before .before .before .before .before .before .before .before .args .list .now) (c .before .before .before .before .before .before .before .before .before .args .at) (c .before .before .before .before .before .before .before .before .before .args .result .now) (c .before .before .before .before .if1 .left) (c .before .before .before .if2 .left) (sym (c .before .in-layout .ensures) ∙ not-true (c .before .in-layout .result) (c .if3 .taken)) in (rw e, (rw e, (rw e, rw e)))
 
 world-at-requires : tie.Need-world-at-requires
 world-at-requires c κs = inside-length (c .before .before .before .before .before .before .before .before .before .before .args .world .now) (sym (c .before .before .in-layout .ensures) ∙ not-false (c .before .before .in-layout .result) (c .before .if3 .left))
@@ -51,7 +51,7 @@ same-length-3 c = search needs
 
 returns-4 : tie.Need-returns-4
 unfolding leave playedOf
-returns-4 c = (rw (command-refused (c .before .before .before .before .before .before .before .before .before .before .before .before .before .before .before .before .before .before .args .world .now) (c .before .before .before .before .before .before .before .before .before .before .before .before .before .before .before .before .before .before .args .store .now) (c .before .before .before .before .before .before .before .before .before .before .before .before .before .before .before .before .before .before .args .list .now) (c .before .before .before .before .before .before .before .before .before .before .before .before .before .before .before .before .before .before .args .at) (c .before .before .before .before .before .before .before .before .before .before .before .before .before .before .before .before .before .before .args .result .now) (c .before .before .before .before .before .before .before .before .before .before .before .before .before .if1 .left) (c .before .before .before .before .before .before .before .before .before .before .before .before .if2 .left) (sym (c .before .before .before .before .before .before .before .before .before .before .in-layout .ensures) ∙ not-false (c .before .before .before .before .before .before .before .before .before .before .in-layout .result) (c .before .before .before .before .before .before .before .before .before .if3 .left)) (rw (c .before .before .before .before .before .one-command .ensures .0, c .before .before .before .before .before .before .before .world-at .ensures) at (c .before .if4 .taken)), c .number-of .ensures, c .before .before .before .before .before .one-command .ensures .0, c .before .before .before .before .before .before .before .world-at .ensures), (rw (command-refused (c .before .before .before .before .before .before .before .before .before .before .before .before .before .before .before .before .before .before .args .world .now) (c .before .before .before .before .before .before .before .before .before .before .before .before .before .before .before .before .before .before .args .store .now) (c .before .before .before .before .before .before .before .before .before .before .before .before .before .before .before .before .before .before .args .list .now) (c .before .before .before .before .before .before .before .before .before .before .before .before .before .before .before .before .before .before .args .at) (c .before .before .before .before .before .before .before .before .before .before .before .before .before .before .before .before .before .before .args .result .now) (c .before .before .before .before .before .before .before .before .before .before .before .before .before .if1 .left) (c .before .before .before .before .before .before .before .before .before .before .before .before .if2 .left) (sym (c .before .before .before .before .before .before .before .before .before .before .in-layout .ensures) ∙ not-false (c .before .before .before .before .before .before .before .before .before .before .in-layout .result) (c .before .before .before .before .before .before .before .before .before .if3 .left)) (rw (c .before .before .before .before .before .one-command .ensures .0, c .before .before .before .before .before .before .before .world-at .ensures) at (c .before .if4 .taken)), c .before .before .before .before .before .one-command .ensures .1, c .before .before .before .before .before .before .before .world-at .ensures), (rw (command-refused (c .before .before .before .before .before .before .before .before .before .before .before .before .before .before .before .before .before .before .args .world .now) (c .before .before .before .before .before .before .before .before .before .before .before .before .before .before .before .before .before .before .args .store .now) (c .before .before .before .before .before .before .before .before .before .before .before .before .before .before .before .before .before .before .args .list .now) (c .before .before .before .before .before .before .before .before .before .before .before .before .before .before .before .before .before .before .args .at) (c .before .before .before .before .before .before .before .before .before .before .before .before .before .before .before .before .before .before .args .result .now) (c .before .before .before .before .before .before .before .before .before .before .before .before .before .if1 .left) (c .before .before .before .before .before .before .before .before .before .before .before .before .if2 .left) (sym (c .before .before .before .before .before .before .before .before .before .before .in-layout .ensures) ∙ not-false (c .before .before .before .before .before .before .before .before .before .before .in-layout .result) (c .before .before .before .before .before .before .before .before .before .if3 .left)) (rw (c .before .before .before .before .before .one-command .ensures .0, c .before .before .before .before .before .before .before .world-at .ensures) at (c .before .if4 .taken))), rw (command-refused (c .before .before .before .before .before .before .before .before .before .before .before .before .before .before .before .before .before .before .args .world .now) (c .before .before .before .before .before .before .before .before .before .before .before .before .before .before .before .before .before .before .args .store .now) (c .before .before .before .before .before .before .before .before .before .before .before .before .before .before .before .before .before .before .args .list .now) (c .before .before .before .before .before .before .before .before .before .before .before .before .before .before .before .before .before .before .args .at) (c .before .before .before .before .before .before .before .before .before .before .before .before .before .before .before .before .before .before .args .result .now) (c .before .before .before .before .before .before .before .before .before .before .before .before .before .if1 .left) (c .before .before .before .before .before .before .before .before .before .before .before .before .if2 .left) (sym (c .before .before .before .before .before .before .before .before .before .before .in-layout .ensures) ∙ not-false (c .before .before .before .before .before .before .before .before .before .before .in-layout .result) (c .before .before .before .before .before .before .before .before .before .if3 .left)) (rw (c .before .before .before .before .before .one-command .ensures .0, c .before .before .before .before .before .before .before .world-at .ensures) at (c .before .if4 .taken))))))
+returns-4 c = let e = command-refused (c .before .before .before .before .before .before .before .before .before .before .before .before .before .before .before .before .before .before .args .world .now) (c .before .before .before .before .before .before .before .before .before .before .before .before .before .before .before .before .before .before .args .store .now) (c .before .before .before .before .before .before .before .before .before .before .before .before .before .before .before .before .before .before .args .list .now) (c .before .before .before .before .before .before .before .before .before .before .before .before .before .before .before .before .before .before .args .at) (c .before .before .before .before .before .before .before .before .before .before .before .before .before .before .before .before .before .before .args .result .now) (c .before .before .before .before .before .before .before .before .before .before .before .before .before .if1 .left) (c .before .before .before .before .before .before .before .before .before .before .before .before .if2 .left) (sym (c .before .before .before .before .before .before .before .before .before .before .in-layout .ensures) ∙ not-false (c .before .before .before .before .before .before .before .before .before .before .in-layout .result) (c .before .before .before .before .before .before .before .before .before .if3 .left)) (rw (c .before .before .before .before .before .one-command .ensures .0, c .before .before .before .before .before .before .before .world-at .ensures) at (c .before .if4 .taken)) in (rw (e, c .number-of .ensures, c .before .before .before .before .before .one-command .ensures .0, c .before .before .before .before .before .before .before .world-at .ensures), (rw (e, c .before .before .before .before .before .one-command .ensures .1, c .before .before .before .before .before .before .before .world-at .ensures), (rw e, rw e)))
 
 put-world-requires : tie.Need-put-world-requires
 put-world-requires c κs = inside-length (c .before .before .before .before .before .before .before .before .before .before .before .before .before .before .before .before .before .before .before .args .world .now) (sym (c .before .before .before .before .before .before .before .before .before .before .before .in-layout .ensures) ∙ not-false (c .before .before .before .before .before .before .before .before .before .before .before .in-layout .result) (c .before .before .before .before .before .before .before .before .before .before .if3 .left))
@@ -70,7 +70,7 @@ same-length-6 c = search needs
 
 returns-5 : tie.Need-returns-5
 unfolding leave playedOf
-returns-5 c = (rw (command-accepted (c .before .before .before .before .before .before .before .before .before .before .before .before .before .before .before .before .before .before .before .before .before .before .before .before .before .before .args .world .now) (c .before .before .before .before .before .before .before .before .before .before .before .before .before .before .before .before .before .before .before .before .before .before .before .before .before .before .args .store .now) (c .before .before .before .before .before .before .before .before .before .before .before .before .before .before .before .before .before .before .before .before .before .before .before .before .before .before .args .list .now) (c .before .before .before .before .before .before .before .before .before .before .before .before .before .before .before .before .before .before .before .before .before .before .before .before .before .before .args .at) (c .before .before .before .before .before .before .before .before .before .before .before .before .before .before .before .before .before .before .before .before .before .before .before .before .before .before .args .result .now) (c .before .before .before .before .before .before .before .before .before .before .before .before .before .before .before .before .before .before .before .before .before .if1 .left) (c .before .before .before .before .before .before .before .before .before .before .before .before .before .before .before .before .before .before .before .before .if2 .left) (sym (c .before .before .before .before .before .before .before .before .before .before .before .before .before .before .before .before .before .before .in-layout .ensures) ∙ not-false (c .before .before .before .before .before .before .before .before .before .before .before .before .before .before .before .before .before .before .in-layout .result) (c .before .before .before .before .before .before .before .before .before .before .before .before .before .before .before .before .before .if3 .left)) (rw (c .before .before .before .before .before .before .before .before .before .before .before .before .before .one-command .ensures .0, c .before .before .before .before .before .before .before .before .before .before .before .before .before .before .before .world-at .ensures) at (c .before .before .before .before .before .before .before .before .before .if4 .left))), (rw (command-accepted (c .before .before .before .before .before .before .before .before .before .before .before .before .before .before .before .before .before .before .before .before .before .before .before .before .before .before .args .world .now) (c .before .before .before .before .before .before .before .before .before .before .before .before .before .before .before .before .before .before .before .before .before .before .before .before .before .before .args .store .now) (c .before .before .before .before .before .before .before .before .before .before .before .before .before .before .before .before .before .before .before .before .before .before .before .before .before .before .args .list .now) (c .before .before .before .before .before .before .before .before .before .before .before .before .before .before .before .before .before .before .before .before .before .before .before .before .before .before .args .at) (c .before .before .before .before .before .before .before .before .before .before .before .before .before .before .before .before .before .before .before .before .before .before .before .before .before .before .args .result .now) (c .before .before .before .before .before .before .before .before .before .before .before .before .before .before .before .before .before .before .before .before .before .if1 .left) (c .before .before .before .before .before .before .before .before .before .before .before .before .before .before .before .before .before .before .before .before .if2 .left) (sym (c .before .before .before .before .before .before .before .before .before .before .before .before .before .before .before .before .before .before .in-layout .ensures) ∙ not-false (c .before .before .before .before .before .before .before .before .before .before .before .before .before .before .before .before .before .before .in-layout .result) (c .before .before .before .before .before .before .before .before .before .before .before .before .before .before .before .before .before .if3 .left)) (rw (c .before .before .before .before .before .before .before .before .before .before .before .before .before .one-command .ensures .0, c .before .before .before .before .before .before .before .before .before .before .before .before .before .before .before .world-at .ensures) at (c .before .before .before .before .before .before .before .before .before .if4 .left)), c .before .before .before .before .before .before .before .before .before .before .before .before .before .one-command .ensures .1, c .before .before .before .before .before .before .before .before .before .before .before .before .before .before .before .world-at .ensures), (rw (command-accepted (c .before .before .before .before .before .before .before .before .before .before .before .before .before .before .before .before .before .before .before .before .before .before .before .before .before .before .args .world .now) (c .before .before .before .before .before .before .before .before .before .before .before .before .before .before .before .before .before .before .before .before .before .before .before .before .before .before .args .store .now) (c .before .before .before .before .before .before .before .before .before .before .before .before .before .before .before .before .before .before .before .before .before .before .before .before .before .before .args .list .now) (c .before .before .before .before .before .before .before .before .before .before .before .before .before .before .before .before .before .before .before .before .before .before .before .before .before .before .args .at) (c .before .before .before .before .before .before .before .before .before .before .before .before .before .before .before .before .before .before .before .before .before .before .before .before .before .before .args .result .now) (c .before .before .before .before .before .before .before .before .before .before .before .before .before .before .before .before .before .before .before .before .before .if1 .left) (c .before .before .before .before .before .before .before .before .before .before .before .before .before .before .before .before .before .before .before .before .if2 .left) (sym (c .before .before .before .before .before .before .before .before .before .before .before .before .before .before .before .before .before .before .in-layout .ensures) ∙ not-false (c .before .before .before .before .before .before .before .before .before .before .before .before .before .before .before .before .before .before .in-layout .result) (c .before .before .before .before .before .before .before .before .before .before .before .before .before .before .before .before .before .if3 .left)) (rw (c .before .before .before .before .before .before .before .before .before .before .before .before .before .one-command .ensures .0, c .before .before .before .before .before .before .before .before .before .before .before .before .before .before .before .world-at .ensures) at (c .before .before .before .before .before .before .before .before .before .if4 .left)), c .before .before .before .before .before .before .put-world .ensures, c .before .before .before .before .before .before .before .before .before .before .before .before .before .one-command .ensures .0, c .before .before .before .before .before .before .before .before .before .before .before .before .before .before .before .world-at .ensures), rw (command-accepted (c .before .before .before .before .before .before .before .before .before .before .before .before .before .before .before .before .before .before .before .before .before .before .before .before .before .before .args .world .now) (c .before .before .before .before .before .before .before .before .before .before .before .before .before .before .before .before .before .before .before .before .before .before .before .before .before .before .args .store .now) (c .before .before .before .before .before .before .before .before .before .before .before .before .before .before .before .before .before .before .before .before .before .before .before .before .before .before .args .list .now) (c .before .before .before .before .before .before .before .before .before .before .before .before .before .before .before .before .before .before .before .before .before .before .before .before .before .before .args .at) (c .before .before .before .before .before .before .before .before .before .before .before .before .before .before .before .before .before .before .before .before .before .before .before .before .before .before .args .result .now) (c .before .before .before .before .before .before .before .before .before .before .before .before .before .before .before .before .before .before .before .before .before .if1 .left) (c .before .before .before .before .before .before .before .before .before .before .before .before .before .before .before .before .before .before .before .before .if2 .left) (sym (c .before .before .before .before .before .before .before .before .before .before .before .before .before .before .before .before .before .before .in-layout .ensures) ∙ not-false (c .before .before .before .before .before .before .before .before .before .before .before .before .before .before .before .before .before .before .in-layout .result) (c .before .before .before .before .before .before .before .before .before .before .before .before .before .before .before .before .before .if3 .left)) (rw (c .before .before .before .before .before .before .before .before .before .before .before .before .before .one-command .ensures .0, c .before .before .before .before .before .before .before .before .before .before .before .before .before .before .before .world-at .ensures) at (c .before .before .before .before .before .before .before .before .before .if4 .left)), c .before .before .put-number .ensures, c .before .before .before .before .before .before .before .before .before .before .before .before .before .one-command .ensures .0, c .before .before .before .before .before .before .before .before .before .before .before .before .before .before .before .world-at .ensures))))
+returns-5 c = let e = command-accepted (c .before .before .before .before .before .before .before .before .before .before .before .before .before .before .before .before .before .before .before .before .before .before .before .before .before .before .args .world .now) (c .before .before .before .before .before .before .before .before .before .before .before .before .before .before .before .before .before .before .before .before .before .before .before .before .before .before .args .store .now) (c .before .before .before .before .before .before .before .before .before .before .before .before .before .before .before .before .before .before .before .before .before .before .before .before .before .before .args .list .now) (c .before .before .before .before .before .before .before .before .before .before .before .before .before .before .before .before .before .before .before .before .before .before .before .before .before .before .args .at) (c .before .before .before .before .before .before .before .before .before .before .before .before .before .before .before .before .before .before .before .before .before .before .before .before .before .before .args .result .now) (c .before .before .before .before .before .before .before .before .before .before .before .before .before .before .before .before .before .before .before .before .before .if1 .left) (c .before .before .before .before .before .before .before .before .before .before .before .before .before .before .before .before .before .before .before .before .if2 .left) (sym (c .before .before .before .before .before .before .before .before .before .before .before .before .before .before .before .before .before .before .in-layout .ensures) ∙ not-false (c .before .before .before .before .before .before .before .before .before .before .before .before .before .before .before .before .before .before .in-layout .result) (c .before .before .before .before .before .before .before .before .before .before .before .before .before .before .before .before .before .if3 .left)) (rw (c .before .before .before .before .before .before .before .before .before .before .before .before .before .one-command .ensures .0, c .before .before .before .before .before .before .before .before .before .before .before .before .before .before .before .world-at .ensures) at (c .before .before .before .before .before .before .before .before .before .if4 .left)) in (rw e, (rw (e, c .before .before .before .before .before .before .before .before .before .before .before .before .before .one-command .ensures .1, c .before .before .before .before .before .before .before .before .before .before .before .before .before .before .before .world-at .ensures), (rw (e, c .before .before .before .before .before .before .put-world .ensures, c .before .before .before .before .before .before .before .before .before .before .before .before .before .one-command .ensures .0, c .before .before .before .before .before .before .before .before .before .before .before .before .before .before .before .world-at .ensures), rw (e, c .before .before .put-number .ensures, c .before .before .before .before .before .before .before .before .before .before .before .before .before .one-command .ensures .0, c .before .before .before .before .before .before .before .before .before .before .before .before .before .before .before .world-at .ensures))))
 
 pub qc-play-command-spec : {M : Type 1} → statement M
 qc-play-command-spec =

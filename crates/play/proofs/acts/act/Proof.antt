@@ -1,12 +1,7 @@
 use native.Mathlib.Omega.{arith}
 use Rattle.play.specs.CallLaws.{acts-refused, acts-named, acts-unnamed}
-use Rattle.play.specs.CallLaws.{unnamed}
 use Rattle.command.specs.Commands.{refusalOf}
-use borrow.Author.Tests.{lt-ltb, le-ltb}
 use denote.Ref.{now}
-use Rattle.play.specs.CallLaws.{refused-acts}
-use Rattle.play.specs.Commands.{performRead}
-use Rattle.play.specs.Changes.{Acts, actor, worldOf}
 use borrow.Author.Needs.{needs}
 use Rattle.play.proofs.acts.act.Statement.{statement}
 use Rattle.play.proofs.acts.act.Tie as tie

@@ -1,4 +1,3 @@
-use Rattle.choice.specs.Choice.{pick}
 use borrow.Author.Tests.{lt-ltb, le-ltb}
 use Rattle.play.specs.Changes.{actor}
 use borrow.Author.Needs.{needs}

@@ -3,8 +3,7 @@ use denote.Ref.{now}
 use Rattle.play.specs.CallLaws.{refused-acts}
 use borrow.Author.Tests.{lt-ltb}
 use Rattle.play.specs.Commands.{timeoutCall}
-use Rattle.play.specs.Calls.{refuse}
-use Rattle.play.specs.Changes.{Acts, changed, worldOf}
+use Rattle.play.specs.Changes.{Acts, worldOf}
 use borrow.Author.Needs.{needs}
 use Rattle.play.proofs.commands.timeout.Statement.{statement}
 use Rattle.play.proofs.commands.timeout.Tie as tie

@@ -1,6 +1,5 @@
 use mathlib.Core.Path.{refl}
 use Rattle.play.specs.Changes.{refusedChange}
-use borrow.Author.Needs.{needs}
 use Rattle.play.proofs.enter.refused.Statement.{statement}
 use Rattle.play.proofs.enter.refused.Tie as tie
 use Rattle.play.proofs.enter.refused.Reads as reads

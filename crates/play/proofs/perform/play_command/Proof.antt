@@ -1,6 +1,5 @@
 use Rattle.play.specs.Changes.{headOf, worldOf, changed}
 use native.Mathlib.Omega.{arith}
-use Rattle.world.specs.Worlds.{withSite, withRows}
 use denote.Ref.{now}
 use Rattle.play.specs.CallLaws.{acts-played}
 use borrow.Author.Needs.{needs}

@@ -1,4 +1,3 @@
-use borrow.Author.Needs.{needs}
 use borrow.Author.Tests.{le-leb, lt-leb}
 use Rattle.player.specs.Shown.{isHeaderNumber}
 use Rattle.player.proofs.show.is_header_number.Statement.{statement}

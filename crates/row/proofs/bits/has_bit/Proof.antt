@@ -1,5 +1,4 @@
 use borrow.Author.Needs.{needs}
-use native.Mathlib.Omega.{arith}
 use lib.Pow.{pow-pos}
 use Rattle.row.specs.Bits.{onlySite, hasBit}
 use Rattle.row.proofs.bits.has_bit.Statement.{statement}

@@ -3,8 +3,6 @@ use native.Mathlib.Omega.{arith}
 use native.Mathlib.Numerals.{add-one}
 use Prim.Native.Nat.{ℕ, _≤_, _-_}
 use mathlib.Core.Path.{_≡_}
-use lib.ListN.{length, length-set}
-use Rattle.choice.specs.Choice.{tests}
 use Rattle.row.specs.Rows.{codesKnown}
 use Rattle.row.proofs.known.codes_known.Statement.{statement}
 use Rattle.row.proofs.known.codes_known.Tie as tie

@@ -3,8 +3,6 @@ use native.Mathlib.Omega.{arith}
 use native.Mathlib.Numerals.{add-one}
 use Prim.Native.Nat.{ℕ, _≤_, _-_}
 use mathlib.Core.Path.{_≡_}
-use lib.ListN.{length, length-set}
-use Rattle.choice.specs.Choice.{tests}
 use Rattle.row.specs.Rows.{codesFrom}
 use Rattle.row.proofs.store.get_codes.Statement.{statement}
 use Rattle.row.proofs.store.get_codes.Tie as tie

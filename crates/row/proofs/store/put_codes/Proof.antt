@@ -4,7 +4,6 @@ use native.Mathlib.Numerals.{add-one}
 use Prim.Native.Nat.{ℕ, _≤_, _-_}
 use mathlib.Core.Path.{_≡_}
 use lib.ListN.{length, length-set}
-use Rattle.choice.specs.Choice.{tests}
 use Rattle.row.specs.Rows.{putCodes}
 use Rattle.row.proofs.store.put_codes.Statement.{statement}
 use Rattle.row.proofs.store.put_codes.Tie as tie

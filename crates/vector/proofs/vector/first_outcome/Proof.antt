@@ -1,5 +1,4 @@
 use borrow.Author.Needs.{needs}
-use Rattle.choice.specs.Choice.{tests}
 use Rattle.vector.specs.Vector.{firstOutcome}
 use Rattle.vector.proofs.vector.first_outcome.Statement.{statement}
 use Rattle.vector.proofs.vector.first_outcome.Tie as tie

@@ -1,10 +1,8 @@
-use borrow.Author.Tests.{le-leb, le-ltb}
 use borrow.Author.Needs.{needs}
 use native.Mathlib.Omega.{arith}
 use native.Mathlib.Numerals.{add-one}
 use Prim.Native.Nat.{ℕ, _≤_, _-_}
 use mathlib.Core.Path.{_≡_}
-use Rattle.choice.specs.Choice.{tests}
 use Rattle.vector.specs.Vector.{lowestOutcome}
 use Rattle.vector.proofs.vector.lowest_outcome.Statement.{statement}
 use Rattle.vector.proofs.vector.lowest_outcome.Tie as tie

@@ -9,7 +9,7 @@ use Rattle.vector.proofs.vector.merge.Statement.{statement}
 use Rattle.vector.proofs.vector.merge.Tie as tie
 use Rattle.vector.proofs.vector.merge.Reads as reads
 use Rattle.vector.proofs.vector.merge.Lts as lts
-use Rattle.vector.proofs.vector.louder.Reads as louder-reads
+use Rattle.vector.proofs.vector.higher.Reads as higher-reads
 
 abbrev Inv-loop : tie.InvT-loop
 Inv-loop n own said kept codes₀ k₀ codes k = (k ≤ n) × (codes ≡ merge k n said codes₀)
@@ -27,16 +27,16 @@ unfolding merge
 loop-holds c = (omega arith, search needs)
 
 -- src/vector.rt:31:27
-array-read-louder : tie.Need-array-read-louder Inv-loop μ-loop
-array-read-louder c = search needs
+array-read-higher : tie.Need-array-read-higher Inv-loop μ-loop
+array-read-higher c = search needs
 
 -- src/vector.rt:31:37
-array-read-louder-2 : tie.Need-array-read-louder-2 Inv-loop μ-loop
-array-read-louder-2 c = search needs
+array-read-higher-2 : tie.Need-array-read-higher-2 Inv-loop μ-loop
+array-read-higher-2 c = search needs
 
 -- src/vector.rt:31:20
-louder-requires : tie.Need-louder-requires Inv-loop μ-loop
-louder-requires c κs = search needs
+higher-requires : tie.Need-higher-requires Inv-loop μ-loop
+higher-requires c κs = search needs
 
 -- src/vector.rt:31:9
 array-write-codes : tie.Need-array-write-codes Inv-loop μ-loop
@@ -53,7 +53,7 @@ loop-less c = search needs
 -- src/vector.rt:30:5
 loop-again : tie.Need-loop-again Inv-loop μ-loop
 loop-again c =
-    (omega arith, rw add-one (merge-on (c .before .before .loop .k) (c .before .before .before .args .n) (c .before .before .before .args .t3) (c .before .before .before .args .t4) (c .before .before .loop .codes) (c .louder .result) (c .before .loop-test .taken) (c .before .before .loop .inv .1) (c .louder .ensures)))
+    (omega arith, rw add-one (merge-on (c .before .before .loop .k) (c .before .before .before .args .n) (c .before .before .before .args .t3) (c .before .before .before .args .t4) (c .before .before .loop .codes) (c .higher .result) (c .before .loop-test .taken) (c .before .before .loop .inv .1) (c .higher .ensures)))
 
 -- src/vector.rt:34:5
 array-write-codes-2 : tie.Need-array-write-codes-2 Inv-loop μ-loop
@@ -73,9 +73,9 @@ merge-spec =
     μ-loop
     array-read-kept
     loop-holds
-    array-read-louder
-    array-read-louder-2
-    louder-requires
+    array-read-higher
+    array-read-higher-2
+    higher-requires
     array-write-codes
     add-k
     loop-less

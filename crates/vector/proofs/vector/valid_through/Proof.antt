@@ -1,6 +1,4 @@
 use borrow.Author.Tests.{le-leb, le-ltb, lt-leb, lt-ltb}
-use borrow.Author.Needs.{needs}
-use Rattle.choice.specs.Choice.{tests}
 use Rattle.vector.specs.Vector.{validEntry}
 use Rattle.vector.proofs.vector.valid_through.Statement.{statement}
 use Rattle.vector.proofs.vector.valid_through.Tie as tie

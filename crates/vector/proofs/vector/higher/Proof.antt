@@ -1,9 +1,9 @@
 use borrow.Author.Needs.{needs}
 use borrow.Author.Tests.{lt-ltb, le-ltb}
-use Rattle.vector.proofs.vector.louder.Statement.{statement}
-use Rattle.vector.proofs.vector.louder.Tie as tie
-use Rattle.vector.proofs.vector.louder.Reads as reads
-use Rattle.vector.proofs.vector.louder.Lts as lts
+use Rattle.vector.proofs.vector.higher.Statement.{statement}
+use Rattle.vector.proofs.vector.higher.Tie as tie
+use Rattle.vector.proofs.vector.higher.Reads as reads
+use Rattle.vector.proofs.vector.higher.Lts as lts
 use Rattle.vector.proofs.codes.level.Reads as level-reads
 
 -- src/vector.rt:15:8
@@ -22,5 +22,5 @@ returns c = simp (lt-ltb _ _ (c .if1 .taken), ← (c .before .level2 .ensures), 
 returns-2 : tie.Need-returns-2
 returns-2 c = simp (le-ltb _ _ (c .if1 .left), ← (c .before .level2 .ensures), ← (c .before .before .level .ensures))
 
-pub louder-spec : {M : Type 1} → statement M
-louder-spec = tie.close (tie.spec level-requires level-requires-2 returns returns-2)
+pub higher-spec : {M : Type 1} → statement M
+higher-spec = tie.close (tie.spec level-requires level-requires-2 returns returns-2)
