@@ -1,9 +1,11 @@
-// The command reader.
+// The readers of a list's bytes and commands.
 mod reader;
 mod view;
 
 pub use reader::refusal_of;
 pub use view::View;
+pub use view::byte_at;
+pub use view::byte_in;
 pub use view::command_in;
 pub use view::look_at;
 pub use view::read_command;

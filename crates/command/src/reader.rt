@@ -1,7 +1,7 @@
-// The reader of one command.
+// The readers on a plain slice: one byte, and one command.
 ghost use mathlib.Core.Path.{_≡_};
 ghost use Prim.Native.Nat.{_+_, _<_, _≤_};
-ghost use lib.ListN.{length};
+ghost use lib.ListN.{length, getD};
 ghost use Rattle.command.specs.declared.Command.the-variants as Command·;
 ghost use Rattle.command.specs.Commands.{found as foundAt, refused as refusedAt, target, delivery, readTarget, readDelivery, readByte, readCommand, refusalOf};
 use crate::Command;
@@ -11,6 +11,16 @@ use crate::Reading;
 use crate::Refusal;
 use crate::Target;
 use word::wide;
+
+// The byte at a place of a list; 0 past its end.
+pub fn byte_of(list: &[u8], at: usize) -> usize
+    ensures { λ r. ⌜ (r ≡ getD (now (list .entry)) at 0) × (r < 256) ⌝ }
+{
+    if at < list.len() {
+        return wide(list[at]);
+    }
+    0
+}
 
 // A command, and the place after its operands.
 fn found(command: Command, next: usize) -> Reading

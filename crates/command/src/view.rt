@@ -1,8 +1,13 @@
-// The view of the caller's list with a place in it, and thin functions over it. The borrow checker covers no function over
-// such a struct, so each is proved by hand. `command_in` leaves the work to `read_at`, which takes a plain slice and is covered.
+// The view of the caller's list with a place in it, and the thin functions over it through which every byte of a list is read.
+// The borrow checker covers no function over a struct that holds a slice, so each of these is proved by hand, by a walk of its
+// code. They do no work of their own: `byte_in` leaves it to `byte_of`, and `command_in` to `read_at`, which take the slice and
+// the place as plain parameters and are covered.
 ghost use mathlib.Core.Path.{_≡_};
+ghost use Prim.Native.Nat.{_<_};
+ghost use lib.ListN.{getD};
 ghost use Rattle.command.specs.Commands.{readCommand};
 use crate::Reading;
+use crate::reader::byte_of;
 use crate::reader::read_at;
 
 pub struct View<'a> {
@@ -16,6 +21,20 @@ pub fn look_at<'a>(list: &'a [u8], at: usize) -> View<'a>
     View { list, at }
 }
 
+// The byte at the view's place; 0 past the list's end.
+pub fn byte_in<'a>(v: View<'a>) -> usize
+    ensures { λ r. ⌜ (r ≡ getD (now (v .entry .list)) (v .entry .at) 0) × (r < 256) ⌝ }
+{
+    byte_of(v.list, v.at)
+}
+
+// The byte at a place of a list; 0 past its end. Its parameters are plain, so a caller's proof has no walk.
+pub fn byte_at(list: &[u8], at: usize) -> usize
+    ensures { λ r. ⌜ (r ≡ getD (now (list .entry)) at 0) × (r < 256) ⌝ }
+{
+    byte_in(look_at(list, at))
+}
+
 // The command at the view's place.
 pub fn command_in<'a>(v: View<'a>) -> Reading
     ensures { λ r. ⌜ r ≡ readCommand (now (v .entry .list)) (v .entry .at) ⌝ }
@@ -23,7 +42,7 @@ pub fn command_in<'a>(v: View<'a>) -> Reading
     read_at(v.list, v.at)
 }
 
-// The command at a place of a list. Its parameters are plain, so a caller's proof has no walk.
+// The command at a place of a list. Its parameters are plain too.
 pub fn read_command(list: &[u8], at: usize) -> Reading
     ensures { λ r. ⌜ r ≡ readCommand (now (list .entry)) at ⌝ }
 {

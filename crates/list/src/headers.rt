@@ -1,22 +1,19 @@
 // The header of a list, and the refusals 1 to 5.
 ghost use mathlib.Core.Path.{_≡_};
-ghost use Prim.Native.Nat.{_≤_};
-ghost use lib.ListN.{length};
 ghost use Rattle.list.specs.Play.{headerOf, headerNumber};
 use crate::Header;
-use word::wide;
+use command::byte_at;
 use world::World;
 
 // n, C, A, and the willing sites with their low byte first.
 pub fn read_header(list: &[u8]) -> Header
-    requires { ⌜ 5 ≤ length (now list) ⌝ }
     ensures { λ r. ⌜ r ≡ headerOf (now (list .entry)) ⌝ }
 {
     Header {
-        n: wide(list[0]),
-        commit: wide(list[1]),
-        abort: wide(list[2]),
-        willing: wide(list[3]) + 256 * wide(list[4]),
+        n: byte_at(list, 0),
+        commit: byte_at(list, 1),
+        abort: byte_at(list, 2),
+        willing: byte_at(list, 3) + 256 * byte_at(list, 4),
     }
 }
 

@@ -1,9 +1,7 @@
 use borrow.Author.Needs.{needs}
 use mathlib.Core.Path.{sym, _∙_}
 use borrow.Author.Tests.{lt-ltb, le-ltb, ne-eqb}
-use denote.Ref.{now}
 use Rattle.list.specs.Play.{headerWorld, playList, refusedList, stopped}
-use Rattle.list.specs.HeaderLaws.{headed}
 use Rattle.list.proofs.whole.play_list.Statement.{statement}
 use Rattle.list.proofs.whole.play_list.Tie as tie
 use Rattle.list.proofs.whole.play_list.Reads as reads
@@ -32,7 +30,7 @@ unfolding playList refusedList stopped
 returns-2 c = (simp (le-ltb _ _ (c .before .before .before .if1 .left), ← (c .before .before .header-number .ensures), ne-eqb _ _ (c .before .if2 .taken)) (c .refused-list2 .ensures), simp (le-ltb _ _ (c .before .before .before .if1 .left), ← (c .before .before .header-number .ensures), ne-eqb _ _ (c .before .if2 .taken)))
 
 read-header-requires : tie.Need-read-header-requires
-read-header-requires c κs = headed (now (c .before .before .before .before .before .args .list)) (sym (c .before .header-number .ensures) ∙ c .if2 .left) .header
+read-header-requires c κs = search needs
 
 fresh-requires : tie.Need-fresh-requires
 fresh-requires c κs = search needs
