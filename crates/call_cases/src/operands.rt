@@ -3,6 +3,7 @@ ghost use Prim.Native.Nat.{_<_};
 use case_line::command;
 use case_line::down;
 use case_line::fresh;
+use case_line::full;
 use site::Outcome;
 use site::Site;
 use world::World;
@@ -14,6 +15,7 @@ pub fn cases() {
     recover();
     starts();
     room();
+    room_for_outcome();
     order();
 }
 
@@ -140,17 +142,10 @@ fn room() {
         0,
         1,
     );
-    command(
-        b"15 START with 1,024 rows",
-        fresh().put_rows(1024),
-        b"\x01",
-        0,
-        15,
-        0,
-    );
+    command(b"15 START with 1,024 rows", full(), b"\x01", 0, 15, 0);
     command(
         b"15 a TIMEOUT that sends nothing passes",
-        fresh().put_rows(1024),
+        full(),
         b"\x03\x02",
         0,
         0,
@@ -158,12 +153,16 @@ fn room() {
     );
     command(
         b"15 CRASH with 1,024 rows passes",
-        fresh().put_rows(1024),
+        full(),
         b"\x04\x02",
         0,
         0,
         2,
     );
+}
+
+// A command of a site that has aborted: the outcome again.
+fn room_for_outcome() {
     command(
         b"15 TIMEOUT aborted, 1,024 rows",
         aborted().put_rows(1024),

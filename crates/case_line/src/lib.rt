@@ -41,7 +41,7 @@ fn stands(played: ListPlayed, number: u8, events: usize, place: usize) -> bool {
 
 // A whole list, in a store of the least length.
 pub fn list(name: &[u8], list: &[u8], number: u8, events: usize, place: usize) {
-    let mut store = [0; 20480];
+    let mut store = [0; World::STORE_BYTES];
     let played = list::play_list(&mut store, list);
     if stands(played, number, events, place) {
         verdict(name, true);
@@ -71,7 +71,7 @@ pub fn told(name: &[u8], played: Played, number: u8, place: usize) {
 
 // One command in a world, with a store of noughts.
 pub fn command(name: &[u8], world: World, list: &[u8], at: usize, number: u8, place: usize) {
-    let mut store = [0; 20480];
+    let mut store = [0; World::STORE_BYTES];
     let played = play::one_command(world, &mut store, list, at);
     told(name, played, number, place);
 }
@@ -79,12 +79,12 @@ pub fn command(name: &[u8], world: World, list: &[u8], at: usize, number: u8, pl
 // The report's text is the expected one.
 fn reported(played: ListPlayed, expected: &[u8]) -> bool {
     let size = expected.len();
-    if 1024 < size {
+    if World::REPORT_BYTES < size {
         return false;
     }
-    let mut want = [0; 1024];
+    let mut want = [0; World::REPORT_BYTES];
     text::put_word(&mut want, 0, expected);
-    let mut got = [0; 1024];
+    let mut got = [0; World::REPORT_BYTES];
     let world = played.world;
     let report = report::write_report(world, played.events, played.number, played.place, &mut got);
     if report.number != 0 {
@@ -98,7 +98,7 @@ fn reported(played: ListPlayed, expected: &[u8]) -> bool {
 
 // A whole list and its whole report.
 pub fn day(name: &[u8], list: &[u8], expected: &[u8]) {
-    let mut store = [0; 20480];
+    let mut store = [0; World::STORE_BYTES];
     let played = list::play_list(&mut store, list);
     verdict(name, reported(played, expected));
 }
@@ -113,6 +113,11 @@ pub fn set(buffer: &mut [u8], at: usize, byte: u8) {
 // Three sites, C = A = 2, all willing.
 pub fn fresh() -> World {
     World::fresh(3, 2, 2, 7)
+}
+
+// The same with no room for another row.
+pub fn full() -> World {
+    fresh().put_rows(World::ROWS)
 }
 
 // A site of the three is down.

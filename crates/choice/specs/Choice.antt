@@ -55,5 +55,5 @@ set-ind P l i j a d room f g = go (eqb j i) refl
         subst P (sym (ap (λ k. getD (set l i a) k d) (eqb-true j i e) ∙ getD-set-same l i a d room)) (f (eqb-true j i e))
     go false e = subst P (sym (getD-set-other l i j a d (eqb-false j i e))) (g (eqb-false j i e))
 
--- what the tests on the way to a return say of the definition's tests: `search (tests, needs)`
+-- the laws by which a test that the code has made settles a definition's test
 pub ruleset tests = (lt-ltb, le-ltb, le-leb, lt-leb, eq-eqb, ne-eqb, pick-on, pick-off)

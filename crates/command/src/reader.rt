@@ -128,7 +128,7 @@ pub fn read_at(list: &[u8], at: usize) -> Reading
     refused(6, at)
 }
 
-// The refusal of an answer that is none of a command.
+// The refusal in an answer; 0 and the place after the operands for a command.
 pub fn refusal_of(reading: Reading) -> Refusal
     ensures { λ r. ⌜ r ≡ refusalOf reading ⌝ }
 {

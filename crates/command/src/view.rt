@@ -1,7 +1,6 @@
 // The view of the caller's list with a place in it, and the thin functions over it through which every byte of a list is read.
-// The borrow checker covers no function over a struct that holds a slice, so each of these is proved by hand, by a walk of its
-// code. They do no work of their own: `byte_in` leaves it to `byte_of`, and `command_in` to `read_at`, which take the slice and
-// the place as plain parameters and are covered.
+// Functions over a struct that holds a slice have to be proved step by step, by hand, so these do no work of their own: `byte_in`
+// leaves it to `byte_of`, and `command_in` to `read_at`, which take the slice and the place as plain parameters.
 ghost use mathlib.Core.Path.{_≡_};
 ghost use Prim.Native.Nat.{_<_};
 ghost use lib.ListN.{getD};
@@ -28,7 +27,7 @@ pub fn byte_in<'a>(v: View<'a>) -> usize
     byte_of(v.list, v.at)
 }
 
-// The byte at a place of a list; 0 past its end. Its parameters are plain, so a caller's proof has no walk.
+// The byte at a place of a list; 0 past its end. Its parameters are plain, so its callers need no proof by hand.
 pub fn byte_at(list: &[u8], at: usize) -> usize
     ensures { λ r. ⌜ (r ≡ getD (now (list .entry)) at 0) × (r < 256) ⌝ }
 {
@@ -42,7 +41,7 @@ pub fn command_in<'a>(v: View<'a>) -> Reading
     read_at(v.list, v.at)
 }
 
-// The command at a place of a list. Its parameters are plain too.
+// The command at a place of a list.
 pub fn read_command(list: &[u8], at: usize) -> Reading
     ensures { λ r. ⌜ r ≡ readCommand (now (list .entry)) at ⌝ }
 {

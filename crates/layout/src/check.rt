@@ -5,6 +5,7 @@ ghost use lib.Dec.{leb};
 ghost use lib.ListN.{length};
 ghost use Rattle.choice.specs.Choice.{both};
 ghost use Rattle.layout.specs.Layout.{sitePlace, atMost, siteInLayout, sitesInLayout, inLayout};
+use crate::WORLD_BYTES;
 use crate::values::site_place;
 
 // The bytes before one are at most the limit, and it is.
@@ -72,7 +73,7 @@ fn sites_in_layout(bytes: &[u8]) -> bool
 pub fn in_layout(bytes: &[u8]) -> bool
     ensures { λ r. ⌜ r ≡ inLayout (now (bytes .entry)) ⌝ }
 {
-    if bytes.len() != 656 {
+    if bytes.len() != WORLD_BYTES {
         return false;
     }
     if bytes[0] != 1 {

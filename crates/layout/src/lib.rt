@@ -4,10 +4,10 @@ mod read;
 mod values;
 mod write;
 
-// The length of a world.
-pub const WORLD_BYTES: usize = 656;
-
 pub use check::in_layout;
 pub use read::world_at;
 pub use write::put_number;
 pub use write::put_world;
+
+// The length of a world.
+pub const WORLD_BYTES: usize = 656;

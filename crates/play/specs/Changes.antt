@@ -1,5 +1,5 @@
 -- A command acts on one site. What it is told beside that site is the world's head, and what it changes is that site and the row
--- count; so the code hands no world on. These definitions say of such a change which call of a world it is.
+-- count. These definitions say which call on a whole world such a change stands for.
 use Prim.Native.Nat.{ℕ, _≤_}
 use mathlib.Core.List.{List}
 use mathlib.Core.Path.{_≡_}
@@ -18,7 +18,7 @@ use Rattle.play.specs.declared.Head.{Head}
 use Rattle.play.specs.declared.Change.{Change}
 use Rattle.play.specs.Calls.{Call, playedOf}
 
--- a world beside its sites
+-- a world without its sites
 unfoldable pub headOf : World → Head
 headOf w = record { n = w .n; commit = w .commit; abort = w .abort; willing = w .willing; rows = w .rows }
 

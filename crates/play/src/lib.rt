@@ -22,7 +22,7 @@ pub struct Played {
     pub place: usize,
 }
 
-// A world beside its sites.
+// A world without its sites.
 pub struct Head {
     pub n: usize,
     pub commit: CommitQuorum,
@@ -31,8 +31,8 @@ pub struct Head {
     pub rows: usize,
 }
 
-// What a command leaves of the one site that it acts on and of the row count: both as they were where it is refused. So no world,
-// of about 600 bytes, is copied for a command.
+// What a command leaves of the one site that it acts on and of the row count: both as they were where it is refused. So list playing
+// need not copy the world, about 600 bytes, for every command.
 pub struct Change {
     pub number: u8,
     pub site: Site,

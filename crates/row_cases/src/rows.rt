@@ -3,6 +3,7 @@ ghost use Prim.Native.Nat.{_<_};
 use case_line::command;
 use case_line::down;
 use case_line::fresh;
+use case_line::full;
 use case_line::set;
 use case_line::told;
 use world::World;
@@ -149,7 +150,7 @@ fn high_byte() {
     );
     command(
         b"9 row 1,023 of 1,024, to 10",
-        fresh().put_rows(1024),
+        full(),
         b"\x02\xff\x03\x01",
         0,
         10,
@@ -157,20 +158,13 @@ fn high_byte() {
     );
     command(
         b"9 row 1,024 of 1,024",
-        fresh().put_rows(1024),
+        full(),
         b"\x02\x00\x04\x01",
         0,
         9,
         0,
     );
-    command(
-        b"9 row 65,535",
-        fresh().put_rows(1024),
-        b"\x02\xff\xff\x01",
-        0,
-        9,
-        0,
-    );
+    command(b"9 row 65,535", full(), b"\x02\xff\xff\x01", 0, 9, 0);
 }
 
 fn room() {
@@ -185,7 +179,7 @@ fn room() {
     );
     deliver(
         b"15 a reply with 1,024 rows",
-        fresh().put_rows(1024),
+        full(),
         [1, 0, 6],
         0,
         1,
@@ -194,7 +188,7 @@ fn room() {
     );
     deliver(
         b"15 a vote heard with 1,024 rows passes",
-        fresh().put_rows(1024),
+        full(),
         [2, 0, 6],
         0,
         1,

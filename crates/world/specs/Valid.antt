@@ -1,4 +1,4 @@
--- The check behind 17, for the world handed in to one command.
+-- The check behind 17, for a world handed in to one command or to the report.
 use Prim.Native.Nat.{ℕ, zero, suc}
 use mathlib.Core.Bool.{Bool, true}
 use mathlib.Core.List.{List}

@@ -1,4 +1,4 @@
-// The check behind 17, for the world handed in to one command.
+// The check behind 17, for a world handed in to one command or to the report.
 ghost use mathlib.Core.Path.{_≡_};
 ghost use Prim.Native.Nat.{_≤_, _<_};
 ghost use lib.Dec.{eqb};
