@@ -2,6 +2,19 @@
 
 use crate::number;
 
+/// A list and the place of a command byte in it.
+#[derive(Clone, Copy, Debug)]
+pub struct Ask<'a> {
+    pub list: &'a [u8],
+    pub at: usize,
+}
+
+impl<'a> Ask<'a> {
+    pub const fn new(list: &'a [u8], at: usize) -> Ask<'a> {
+        Ask { list, at }
+    }
+}
+
 /// One command with its operands.
 #[derive(Clone, Copy, Debug, PartialEq, Eq, Hash)]
 pub enum Command {
@@ -13,9 +26,9 @@ pub enum Command {
 }
 
 impl Command {
-    /// Reads the command at a place, and says where the next one is.
-    pub fn read(list: &[u8], at: usize) -> Result<(Command, usize), u8> {
-        let (command, size) = match *list.get(at..).unwrap_or_default() {
+    /// Reads the command asked for, and says where the next one is.
+    pub fn read(ask: Ask) -> Result<(Command, usize), u8> {
+        let (command, size) = match *ask.list.get(ask.at..).unwrap_or_default() {
             [1, ..] => (Command::Start, 1),
             [2, low, high, site, ..] => {
                 let row = u16::from_le_bytes([low, high]).into();
@@ -27,7 +40,7 @@ impl Command {
             [2..=5, ..] => return Err(number::CUT),
             [] | [0 | 6.., ..] => return Err(number::COMMAND),
         };
-        Ok((command, at + size))
+        Ok((command, ask.at + size))
     }
 
     /// DELIVER of a row to a site.
