@@ -12,11 +12,15 @@ use crate::command::Command;
 use crate::sizes::{everyone, Sizes, HEADER_BYTES, MAX_LIST, MAX_SITES, MIN_SITES};
 use guide::Guide;
 
+/// Bytes that a long list gets at the least, if nothing stops it.
+const LONG: usize = 4_000;
+
 /// A source of lists.
 pub struct Generator {
     rng: Rng,
-    /// Guided lists and duels get no longer than this, but for a last command
-    /// that is refused.
+    /// Guided lists and duels get no shorter and no longer than this, but for
+    /// a last command that is refused.
+    least: usize,
     most: usize,
 }
 
@@ -30,7 +34,17 @@ impl Generator {
     pub fn up_to(seed: u64, most: usize) -> Generator {
         Generator {
             rng: Rng::new(seed),
+            least: HEADER_BYTES,
             most: most.clamp(HEADER_BYTES, MAX_LIST),
+        }
+    }
+
+    /// One whose guided lists and duels get long; guided ones begin with a
+    /// quarrel half of the time.
+    pub fn long(seed: u64) -> Generator {
+        Generator {
+            least: LONG,
+            ..Generator::new(seed)
         }
     }
 
@@ -50,8 +64,10 @@ impl Generator {
     /// A list whose commands are accepted, but for the last one at times.
     pub fn next_guided(&mut self) -> Vec<u8> {
         let sizes = sizes(&mut self.rng);
-        let limit = length(&mut self.rng).min(self.most);
-        let mut guide = Guide::new(sizes, limit);
+        let mut guide = Guide::new(sizes, self.length());
+        if self.least >= LONG && self.rng.chance(50) {
+            guide.begin_with_quarrel(&mut self.rng);
+        }
         guide.wander(&mut self.rng);
         if self.rng.chance(60) {
             spoil::spoil(&mut guide, &mut self.rng);
@@ -106,7 +122,7 @@ impl Generator {
     /// A duel of any size.
     pub fn next_duel(&mut self) -> Vec<u8> {
         let n = self.rng.between(MIN_SITES, MAX_SITES);
-        let bytes = self.rng.between(HEADER_BYTES, self.most);
+        let bytes = self.rng.between(self.least, self.most);
         duel(n as u8, self.rng.draw(), bytes)
     }
 
@@ -123,6 +139,23 @@ impl Generator {
     /// damage to the world or the store.
     pub fn next_call(&mut self) -> Call {
         call::any(&mut self.rng)
+    }
+
+    /// How long a guided list may get.
+    fn length(&mut self) -> usize {
+        let rng = &mut self.rng;
+        let bytes = match rng.below(100) {
+            0..=2 => HEADER_BYTES,
+            3..=37 => rng.between(HEADER_BYTES + 1, 100),
+            38..=79 => rng.between(101, 1_500),
+            80..=93 => rng.between(1_501, 6_000),
+            94..=98 => rng.between(6_001, MAX_LIST),
+            _ => MAX_LIST,
+        };
+        if bytes < self.least {
+            return rng.between(self.least, 3 * self.least);
+        }
+        bytes.min(self.most)
     }
 
     /// A byte that differs from this one: near it, by a bit, or anything.
@@ -197,17 +230,5 @@ fn willing(rng: &mut Rng, n: usize) -> u16 {
         0..=7 => all,
         8 => all & !(1 << rng.below(n)),
         _ => all & rng.draw() as u16,
-    }
-}
-
-/// How long a guided list may get.
-fn length(rng: &mut Rng) -> usize {
-    match rng.below(100) {
-        0..=2 => HEADER_BYTES,
-        3..=37 => rng.between(HEADER_BYTES + 1, 100),
-        38..=79 => rng.between(101, 1_500),
-        80..=93 => rng.between(1_501, 6_000),
-        94..=98 => rng.between(6_001, MAX_LIST),
-        _ => MAX_LIST,
     }
 }

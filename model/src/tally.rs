@@ -167,9 +167,9 @@ impl Tally {
         }
     }
 
-    /// How many lists led to this.
-    pub fn count(&self, sight: Sight) -> usize {
-        self.seen[sight as usize]
+    /// How many of a hundred lists led to this.
+    pub fn percent(&self, sight: Sight) -> usize {
+        100 * self.seen[sight as usize] / self.lists.max(1)
     }
 
     /// How many lists ended with a stop number, 0 for the list's end.
@@ -182,7 +182,8 @@ impl fmt::Display for Tally {
     fn fmt(&self, f: &mut fmt::Formatter) -> fmt::Result {
         write!(f, "{} lists, {} events", self.lists, self.events)?;
         for sight in Sight::ALL {
-            write!(f, ", {sight:?} in {}", self.count(sight))?;
+            let (count, percent) = (self.seen[sight as usize], self.percent(sight));
+            write!(f, ", {sight:?} in {count} ({percent}%)")?;
         }
         Ok(())
     }

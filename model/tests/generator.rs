@@ -96,15 +96,15 @@ fn guided_lists_are_rich() {
     let lists: Vec<Vec<u8>> = (0..LISTS).map(|_| generator.next_guided()).collect();
     let tally = tally_of(&lists);
     for (sight, least) in [
-        (Sight::CommitQuorum, LISTS / 10),
-        (Sight::AbortQuorum, LISTS / 10),
-        (Sight::FullStore, LISTS / 20),
-        (Sight::Repeat, LISTS / 10),
-        (Sight::SeveralLeaders, LISTS / 10),
-        (Sight::BothGroups, LISTS / 50),
-        (Sight::CrashMidway, LISTS / 20),
+        (Sight::CommitQuorum, 10),
+        (Sight::AbortQuorum, 10),
+        (Sight::FullStore, 5),
+        (Sight::Repeat, 10),
+        (Sight::SeveralLeaders, 10),
+        (Sight::BothGroups, 2),
+        (Sight::CrashMidway, 5),
     ] {
-        assert!(tally.count(sight) > least, "{sight:?}");
+        assert!(tally.percent(sight) >= least, "{sight:?}");
     }
     let header_only = lists.iter().filter(|list| list.len() == 5);
     assert!(header_only.count() > LISTS / 400);

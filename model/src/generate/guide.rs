@@ -350,13 +350,28 @@ impl Guide {
 
     /// A duel until the store is full, and small things after that.
     pub fn quarrel(&mut self, rng: &mut Rng) {
-        self.open_quarrel(rng);
-        self.hold = MAX_ROWS + 1;
-        while self.room() >= 2 && self.world.row_count < MAX_ROWS {
-            self.quarrel_move(rng);
-        }
+        self.quarrel_for(rng, MAX_ROWS);
         while self.room() >= 2 {
             self.idle_move(rng);
+        }
+    }
+
+    /// A quarrel of some rows, after which it may be settled.
+    pub fn begin_with_quarrel(&mut self, rng: &mut Rng) {
+        let rows = rng.between(10, MAX_ROWS);
+        self.quarrel_for(rng, rows);
+        self.hold = 0;
+    }
+
+    /// A duel until so many rows are sent; there is none if not all are willing.
+    fn quarrel_for(&mut self, rng: &mut Rng, rows: usize) {
+        self.open_quarrel(rng);
+        if !is_undecided(&self.world) {
+            return;
+        }
+        self.hold = MAX_ROWS + 1;
+        while self.room() >= 2 && self.world.row_count < rows {
+            self.quarrel_move(rng);
         }
     }
 

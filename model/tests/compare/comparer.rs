@@ -256,7 +256,9 @@ fn same<const N: usize>(
         why += &format!("number: library {}, model {}\n", library.0, model.0);
     }
     for (name, (left, right)) in names.iter().zip(library.1.iter().zip(&model.1)) {
-        if let Some(at) = (0..left.len()).find(|&at| left[at] != right[at]) {
+        if left != right {
+            let at = (0..left.len()).find(|&at| left[at] != right[at]);
+            let at = at.expect("buffers of one length");
             let (held, due) = (left[at], right[at]);
             why += &format!("{name} byte {at}: library {held}, model {due}\n");
         }

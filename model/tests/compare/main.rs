@@ -100,6 +100,18 @@ const CLAUSES: [&str; 41] = [
     "18 buffer too short",
 ];
 
+/// The least that is asked for of the lists compared: in how many of a hundred
+/// each sight is had, and in how many of a hundred of the longer lists.
+const LEAST: [(Sight, usize, usize); 7] = [
+    (Sight::Repeat, 30, 90),
+    (Sight::SeveralLeaders, 30, 90),
+    (Sight::FullStore, 1, 60),
+    (Sight::CrashMidway, 10, 40),
+    (Sight::BothGroups, 4, 30),
+    (Sight::CommitQuorum, 15, 20),
+    (Sight::AbortQuorum, 4, 30),
+];
+
 /// All that is compared; the first difference ends it.
 fn compare(both: &mut Comparer, amount: &Amount) -> Result<(), String> {
     made_by_hand(both)?;
@@ -117,7 +129,7 @@ fn made_by_hand(both: &mut Comparer) -> Result<(), String> {
 fn generated(both: &mut Comparer, amount: &Amount) -> Result<(), String> {
     generated_lists(both, Generator::up_to(SEED, 160), amount.short)?;
     generated_lists(both, Generator::up_to(SEED + 1, 1_500), amount.middle)?;
-    generated_lists(both, Generator::new(SEED + 2), amount.long)?;
+    generated_lists(both, Generator::long(SEED + 2), amount.long)?;
     generated_calls(both, amount.calls)?;
     generated_reports(both, amount.reports)
 }
@@ -185,12 +197,23 @@ fn library_and_model_agree() {
     }
     print(&both);
     println!("no difference in {:.1} s", start.elapsed().as_secs_f64());
-    assert!(both.lists >= 100_000);
     for number in 0..=number::LAST.into() {
         assert!(both.numbers.contains_key(&number), "{number} never seen");
     }
     for name in CLAUSES {
         assert!(both.clauses.contains_key(name), "{name} never hit");
+    }
+    assert_rich(&both);
+}
+
+/// There are many lists, many of them long, and much happens in them.
+fn assert_rich(both: &Comparer) {
+    let (all, longer) = (&both.tally, &both.longer);
+    assert!(all.lists >= 100_000 && longer.lists >= 1_000);
+    assert!(all.sites.iter().filter(|&&n| n > 0).copied().eq(3..=16));
+    for (sight, of_all, of_longer) in LEAST {
+        assert!(all.percent(sight) >= of_all, "{sight:?} is rare");
+        assert!(longer.percent(sight) >= of_longer, "{sight:?} is rare");
     }
 }
 
