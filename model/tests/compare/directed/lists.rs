@@ -42,24 +42,31 @@ fn days() -> Vec<Numbered> {
     ]
 }
 
-fn headers() -> Vec<Numbered> {
-    vec![
-        ("3 n of 2", 3, header(2, 2, 2, 3)),
-        ("3 n of 17", 3, header(17, 9, 9, 3)),
-        ("3 n of 0", 3, header(0, 0, 0, 0)),
-        ("3 n of 255", 3, header(255, 128, 128, 0)),
-        ("0 n of 16", 0, header(16, 9, 8, 0xffff)),
-        ("4 quorums that miss", 4, header(4, 2, 2, 15)),
-        ("0 quorums that meet", 0, header(4, 2, 3, 15)),
-        ("4 C over n - 1", 4, header(4, 4, 2, 15)),
-        ("4 A over n - 1", 4, header(4, 2, 4, 15)),
-        ("4 C over n - 1", 4, header(3, 255, 2, 7)),
-        ("4 A over n - 1", 4, header(3, 2, 255, 7)),
-        ("4 before 5", 4, header(3, 3, 2, 0xff)),
-        ("5 willing bit at n", 5, header(3, 2, 2, 8)),
-        ("5 willing bit above n", 5, header(8, 5, 5, 1 << 15)),
-        ("5 willing bit above n", 5, header(15, 8, 8, 1 << 15)),
-    ]
+/// Clauses and numbers, each with headers: n, C, A and the willing bits.
+const HEADERS: &[(&str, u8, &[[usize; 4]])] = &[
+    ("3 n under 3", 3, &[[2, 2, 2, 3], [0, 0, 0, 0]]),
+    ("3 n over 16", 3, &[[17, 9, 9, 3], [255, 128, 128, 0]]),
+    ("0 n of 16", 0, &[[16, 9, 8, 0xffff]]),
+    ("4 quorums that miss", 4, &[[4, 2, 2, 15]]),
+    ("0 quorums that meet", 0, &[[4, 2, 3, 15]]),
+    ("4 C over n - 1", 4, &[[4, 4, 2, 15], [3, 255, 2, 7]]),
+    ("4 A over n - 1", 4, &[[4, 2, 4, 15], [3, 2, 255, 7]]),
+    ("4 before 5", 4, &[[3, 3, 2, 0xff]]),
+    ("5 willing bit at n", 5, &[[3, 2, 2, 8]]),
+    (
+        "5 willing bit above n",
+        5,
+        &[[8, 5, 5, 1 << 15], [15, 8, 8, 1 << 15]],
+    ),
+];
+
+fn headers() -> impl Iterator<Item = Numbered> {
+    HEADERS.iter().flat_map(|&(name, number, headers)| {
+        let lists = headers
+            .iter()
+            .map(|&[n, c, a, willing]| header(n, c, a, willing as u16));
+        lists.map(move |list| (name, number, list))
+    })
 }
 
 /// Lists too short, too long, and almost too long.
@@ -82,7 +89,7 @@ fn lengths() -> Vec<Numbered> {
 
 pub fn lists(both: &mut Comparer) -> Done {
     let quiet = (3..=16).map(|n| ("0 quiet day", 0, quiet_day(n, n - 1, n - 1)));
-    let others = headers().into_iter().chain(lengths()).chain(quiet);
+    let others = headers().chain(lengths()).chain(quiet);
     for (name, number, list) in others {
         let given = both.list(&list)?;
         both.clause(name, number, given)?;

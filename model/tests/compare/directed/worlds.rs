@@ -42,65 +42,71 @@ const fn group_code(site: usize, entry: usize) -> usize {
 /// Places of the base world's bytes and what is put there.
 type Patch = &'static [(usize, u8)];
 
-/// Worlds whose head breaks one clause of 17.
-const BROKEN_HEADS: &[(&str, Patch)] = &[
-    ("17 n under 3", &[(N, 2)]),
-    ("17 n under 3", &[(N, 0)]),
-    ("17 n over 16", &[(N, 17)]),
-    ("17 n over 16", &[(N, 255)]),
-    ("17 C over n - 1", &[(C, 5)]),
-    ("17 C over n - 1", &[(C + 1, 1)]),
-    ("17 C over n - 1", &[(C, 255), (C + 1, 255)]),
-    ("17 A over n - 1", &[(A, 5)]),
-    ("17 A over n - 1", &[(A + 1, 1)]),
-    ("17 A over n - 1", &[(A, 255), (A + 1, 255)]),
-    ("17 C + A under n + 1", &[(A, 2)]),
-    ("17 C + A under n + 1", &[(C, 2)]),
-    ("17 C + A under n + 1", &[(C, 0)]),
-    ("17 willing bit at n or above", &[(WILLING, 0b11_1111)]),
-    ("17 willing bit at n or above", &[(WILLING + 1, 0x80)]),
-    ("17 rows over 1,024", &[(ROWS, 1), (ROWS + 1, 4)]),
-    ("17 rows over 1,024", &[(ROWS, 255), (ROWS + 1, 255)]),
-];
-
-/// Worlds of which one site breaks one clause of 17.
-const BROKEN_SITES: &[(&str, Patch)] = &[
-    ("17 code above 5", &[(code(3, 1), 6)]),
-    ("17 code above 5", &[(code(4, 0), 255)]),
-    ("17 code above 5", &[(code(0, 4), 6)]),
-    ("17 entry from n up not 0", &[(code(3, 5), 1)]),
-    ("17 entry from n up not 0", &[(code(4, 15), 5)]),
-    ("17 own entry not its state", &[(code(3, 3), 0)]),
-    ("17 own entry not its state", &[(code(0, 0), 4)]),
-    ("17 own entry not its state", &[(code(4, 4), 2)]),
-    ("17 own entry not its state", &[(at_site(3, PREPARE), 0)]),
-    ("17 own entry not its state", &[(at_site(3, OUTCOME), 2)]),
-    ("17 group's code above 5", &[(group_code(0, 3), 6)]),
-    ("17 group's code above 5", &[(group_code(2, 4), 255)]),
-    ("17 group's entry from n up not 0", &[(group_code(0, 5), 1)]),
+/// Worlds that break one clause of 17.
+const BROKEN: &[(&str, &[Patch])] = &[
+    ("17 n under 3", &[&[(N, 2)], &[(N, 0)]]),
+    ("17 n over 16", &[&[(N, 17)], &[(N, 255)]]),
+    (
+        "17 C over n - 1",
+        &[&[(C, 5)], &[(C + 1, 1)], &[(C, 255), (C + 1, 255)]],
+    ),
+    (
+        "17 A over n - 1",
+        &[&[(A, 5)], &[(A + 1, 1)], &[(A, 255), (A + 1, 255)]],
+    ),
+    ("17 C + A under n + 1", &[&[(A, 2)], &[(C, 2)], &[(C, 0)]]),
+    (
+        "17 willing bit at n or above",
+        &[&[(WILLING, 0b11_1111)], &[(WILLING + 1, 0x80)]],
+    ),
+    (
+        "17 rows over 1,024",
+        &[&[(ROWS, 1), (ROWS + 1, 4)], &[(ROWS, 255), (ROWS + 1, 255)]],
+    ),
+    (
+        "17 code above 5",
+        &[&[(code(3, 1), 6)], &[(code(4, 0), 255)], &[(code(0, 4), 6)]],
+    ),
+    (
+        "17 entry from n up not 0",
+        &[&[(code(3, 5), 1)], &[(code(4, 15), 5)]],
+    ),
+    (
+        "17 own entry not its state",
+        &[&[(code(3, 3), 0)], &[(code(0, 0), 4)], &[(code(4, 4), 2)]],
+    ),
+    (
+        "17 own entry not its state",
+        &[&[(at_site(3, PREPARE), 0)], &[(at_site(3, OUTCOME), 2)]],
+    ),
+    (
+        "17 group's code above 5",
+        &[&[(group_code(0, 3), 6)], &[(group_code(2, 4), 255)]],
+    ),
     (
         "17 group's entry from n up not 0",
-        &[(group_code(2, 15), 2)],
-    ),
-    (
-        "17 group's own entry not its group",
-        &[(group_code(0, 0), 3)],
-    ),
-    (
-        "17 group's own entry not its group",
-        &[(group_code(2, 2), 4)],
+        &[&[(group_code(0, 5), 1)], &[(group_code(2, 15), 2)]],
     ),
     (
         "17 group's own entry not its group",
         &[
-            (at_site(1, OUTCOME), 1),
-            (code(1, 1), 4),
-            (group_code(1, 1), 4),
+            &[(group_code(0, 0), 3)],
+            &[(group_code(2, 2), 4)],
+            &[
+                (at_site(1, OUTCOME), 1),
+                (code(1, 1), 4),
+                (group_code(1, 1), 4),
+            ],
         ],
     ),
-    ("17 vector without a group", &[(group_code(3, 1), 1)]),
-    ("17 vector without a group", &[(group_code(4, 4), 1)]),
-    ("17 vector without a group", &[(group_code(3, 15), 9)]),
+    (
+        "17 vector without a group",
+        &[
+            &[(group_code(3, 1), 1)],
+            &[(group_code(4, 4), 1)],
+            &[(group_code(3, 15), 9)],
+        ],
+    ),
 ];
 
 /// Worlds that look odd and pass.
@@ -186,9 +192,10 @@ fn outside() -> Vec<(&'static str, Vec<u8>)> {
 
 /// Every clause of 17, and the numbers before and after it.
 pub fn worlds(both: &mut Comparer) -> Done {
-    let broken = BROKEN_HEADS.iter().chain(BROKEN_SITES);
-    for (name, patch) in broken {
-        command_and_report(both, name, 17, &patched(patch))?;
+    for (name, patches) in BROKEN {
+        for patch in *patches {
+            command_and_report(both, name, 17, &patched(patch))?;
+        }
     }
     for (name, patch) in ODD {
         command_and_report(both, name, 0, &patched(patch))?;
