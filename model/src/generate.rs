@@ -12,15 +12,15 @@ use crate::command::Command;
 use crate::sizes::{everyone, Sizes, HEADER_BYTES, MAX_LIST, MAX_SITES, MIN_SITES};
 use guide::Guide;
 
-/// Bytes that a long list gets at the least, if nothing stops it.
+/// What a long list has at the least, in bytes.
 const LONG: usize = 4_000;
 
 /// A source of lists.
 pub struct Generator {
     rng: Rng,
-    /// Guided lists and duels get no shorter and no longer than this, but for
-    /// a last command that is refused.
+    /// Guided lists and duels grow at least to this, if anything can happen.
     least: usize,
+    /// They get no longer than this, but for a last command that is refused.
     most: usize,
 }
 

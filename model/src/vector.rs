@@ -59,12 +59,10 @@ impl Vector {
 
     /// The outcome that some entry shows, the lowest site's first.
     pub fn outcome(&self) -> Option<Side> {
-        let commit = State::Terminated(Side::Commit).code();
-        let code = self.0.iter().find(|&&code| code >= commit)?;
-        Some(if *code == commit {
-            Side::Commit
-        } else {
-            Side::Abort
+        self.0.iter().find_map(|code| match code {
+            4 => Some(Side::Commit),
+            5 => Some(Side::Abort),
+            _ => None,
         })
     }
 }

@@ -53,10 +53,10 @@ const PART: Amount = Amount {
     reports: 500,
 };
 
-/// Each of these must have been hit by a call made for it, under this name.
-/// They are the clauses of document 01's table of numbers; those that speak of
-/// the layout and of world and result lengths are docs/LAYOUT.md's.
-const CLAUSES: [&str; 41] = [
+/// Every clause of document 01's table of numbers, in its order. Those that
+/// speak of the layout, of a list's world length and of the result length are
+/// docs/LAYOUT.md's. Each must be hit by a call made by hand for it.
+const CLAUSES: &[&str] = &[
     "16 store too short",
     "17 n under 3",
     "17 n over 16",
@@ -86,13 +86,29 @@ const CLAUSES: [&str; 41] = [
     "17 stop number",
     "17 events over 32,768",
     "17 place over 32,768",
+    "1 over 32,768",
+    "2 under 5",
+    "3 n under 3",
+    "3 n over 16",
+    "4 C over n - 1",
+    "4 A over n - 1",
+    "4 C + A under n + 1",
+    "5 willing bit at n or above",
     "6 none left",
     "6 not 1 to 5",
+    "7 operands cut short",
+    "8 site n or more",
     "9 row not below the count",
     "10 kind not 1 to 7",
     "10 sender n or more",
     "10 code above 5",
     "11 not a destination",
+    "12 down: START",
+    "12 down: DELIVER",
+    "12 down: TIMEOUT",
+    "12 down: CRASH",
+    "13 RECOVER while up",
+    "14 START, not active",
     "15 START",
     "15 DELIVER of a command",
     "15 TIMEOUT of a coordinator",
