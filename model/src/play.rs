@@ -4,7 +4,7 @@ use crate::command::{Ask, Command};
 use crate::number;
 use crate::report::Numbers;
 use crate::row::{Row, STORE_BYTES};
-use crate::site::{Site, State};
+use crate::site::State;
 use crate::sizes::{Sizes, HEADER_BYTES, MAX_LIST};
 use crate::step::Actor;
 use crate::world::{World, MAX_ROWS};
@@ -118,15 +118,21 @@ pub fn play_command(world: &mut World, store: &mut [u8], ask: Ask) -> Result<usi
     let (command, next) = Command::read(ask)?;
     let told = check_operands(world, store, command)?;
     check_site(world, command)?;
-    let (site, sent) = step(world, command, told.as_ref());
-    if let Some(row) = sent {
+    let me = command.site();
+    let mut site = world.sites[me];
+    let mut actor = Actor {
+        sizes: &world.sizes,
+        me,
+        site: &mut site,
+    };
+    if let Some(row) = actor.act(command, told.as_ref()) {
         if world.row_count == MAX_ROWS {
             return Err(number::FULL);
         }
         row.write(store, world.row_count);
         world.row_count += 1;
     }
-    world.sites[command.site()] = site;
+    world.sites[me] = site;
     Ok(next)
 }
 
@@ -158,18 +164,4 @@ fn check_site(world: &World, command: Command) -> Result<(), u8> {
         Command::Start if site.state() != State::Active => Err(number::STARTED),
         _ => Ok(()),
     }
-}
-
-/// The site after the command, and the row to be sent.
-fn step(world: &World, command: Command, told: Option<&Row>) -> (Site, Option<Row>) {
-    let mut actor = Actor::new(world, command.site());
-    let mut sent = None;
-    match command {
-        Command::Start => sent = Some(actor.start()),
-        Command::Deliver { .. } => sent = told.and_then(|row| actor.deliver(row)),
-        Command::Timeout(_) => sent = actor.timeout(),
-        Command::Crash(_) => actor.crash(),
-        Command::Recover(_) => actor.recover(),
-    }
-    (actor.site, sent)
 }

@@ -85,5 +85,5 @@ impl Sizes {
 
 /// A bit for each of the sites below n.
 pub fn everyone(n: usize) -> u16 {
-    (0..n.min(MAX_SITES)).fold(0, |bits, site| bits | 1 << site)
+    ((1_u32 << n.min(MAX_SITES)) - 1) as u16
 }

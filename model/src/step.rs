@@ -1,30 +1,38 @@
 //! The site rules: what each event does to one site, and the row it sends.
 
+use crate::command::Command;
 use crate::row::{Kind, Row};
 use crate::site::{GroupRecord, Role, Side, Site, State};
 use crate::sizes::{everyone, Sizes};
 use crate::vector::Vector;
-use crate::world::World;
 
 /// The site an event happens at, beside the world's sizes.
 pub struct Actor<'a> {
-    sizes: &'a Sizes,
-    me: usize,
-    pub site: Site,
+    pub sizes: &'a Sizes,
+    pub me: usize,
+    pub site: &'a mut Site,
 }
 
-impl<'a> Actor<'a> {
-    /// Takes a site's record out of the world, to be changed.
-    pub fn new(world: &'a World, me: usize) -> Actor<'a> {
-        Actor {
-            sizes: &world.sizes,
-            me,
-            site: world.sites[me],
+impl Actor<'_> {
+    /// What a command does here, with the row it delivers if it does.
+    pub fn act(&mut self, command: Command, told: Option<&Row>) -> Option<Row> {
+        match command {
+            Command::Start => Some(self.start()),
+            Command::Deliver { .. } => told.and_then(|row| self.deliver(row)),
+            Command::Timeout(_) => self.timeout(),
+            Command::Crash(_) => {
+                self.crash();
+                None
+            }
+            Command::Recover(_) => {
+                self.recover();
+                None
+            }
         }
     }
 
     /// START at this site.
-    pub fn start(&mut self) -> Row {
+    fn start(&mut self) -> Row {
         self.site.role = Role::Coordinator;
         if self.sizes.is_willing(self.me) {
             self.prepare();
@@ -36,7 +44,7 @@ impl<'a> Actor<'a> {
     }
 
     /// TIMEOUT at this site.
-    pub fn timeout(&mut self) -> Option<Row> {
+    fn timeout(&mut self) -> Option<Row> {
         if self.site.state() == State::Active {
             self.end(Side::Abort);
             return None;
@@ -75,7 +83,7 @@ impl<'a> Actor<'a> {
     }
 
     /// DELIVER of a row to this site.
-    pub fn deliver(&mut self, row: &Row) -> Option<Row> {
+    fn deliver(&mut self, row: &Row) -> Option<Row> {
         self.site.vector.merge(&row.vector, self.me);
         self.learn_outcome();
         match (row.kind, self.site.state()) {
@@ -104,7 +112,7 @@ impl<'a> Actor<'a> {
     }
 
     /// CRASH of this site: only the log is left.
-    pub fn crash(&mut self) {
+    fn crash(&mut self) {
         self.site.up = false;
         self.site.role = Role::Subordinate;
         self.site.vector = match self.site.log.group {
@@ -115,7 +123,7 @@ impl<'a> Actor<'a> {
     }
 
     /// RECOVER of this site.
-    pub fn recover(&mut self) {
+    fn recover(&mut self) {
         self.site.up = true;
     }
 
