@@ -118,21 +118,17 @@ pub fn play_command(world: &mut World, store: &mut [u8], ask: Ask) -> Result<usi
     let (command, next) = Command::read(ask)?;
     let told = check_operands(world, store, command)?;
     check_site(world, command)?;
+    check_room(world, command, told.as_ref())?;
     let me = command.site();
-    let mut site = world.sites[me];
     let mut actor = Actor {
         sizes: &world.sizes,
         me,
-        site: &mut site,
+        site: &mut world.sites[me],
     };
     if let Some(row) = actor.act(command, told.as_ref()) {
-        if world.row_count == MAX_ROWS {
-            return Err(number::FULL);
-        }
         row.write(store, world.row_count);
         world.row_count += 1;
     }
-    world.sites[me] = site;
     Ok(next)
 }
 
@@ -164,4 +160,18 @@ fn check_site(world: &World, command: Command) -> Result<(), u8> {
         Command::Start if site.state() != State::Active => Err(number::STARTED),
         _ => Ok(()),
     }
+}
+
+/// Check 15: a row is to be added and the store is full.
+fn check_room(world: &World, command: Command, told: Option<&Row>) -> Result<(), u8> {
+    let adds_row = match command {
+        Command::Start => true,
+        Command::Deliver { .. } => told.is_some_and(|row| row.kind.reply().is_some()),
+        Command::Timeout(site) => world.sites[site].state() != State::Active,
+        Command::Crash(_) | Command::Recover(_) => false,
+    };
+    if adds_row && world.row_count == MAX_ROWS {
+        return Err(number::FULL);
+    }
+    Ok(())
 }
