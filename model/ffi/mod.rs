@@ -3,7 +3,8 @@
 
 #![allow(unsafe_code)]
 
-use model::calls::{Calls, Numbers};
+use model::calls::Calls;
+use model::{Ask, Numbers};
 
 #[link(name = "capi", kind = "static")]
 extern "C" {
@@ -64,14 +65,7 @@ impl Calls for Library {
         }
     }
 
-    fn play_command(
-        &self,
-        world: &mut [u8],
-        store: &mut [u8],
-        list: &[u8],
-        at: usize,
-        result: &mut [u8],
-    ) -> u32 {
+    fn play_command(&self, world: &mut [u8], store: &mut [u8], ask: Ask, result: &mut [u8]) -> u32 {
         // SAFETY: as above.
         unsafe {
             qc_play_command(
@@ -79,9 +73,9 @@ impl Calls for Library {
                 world.len(),
                 store.as_mut_ptr(),
                 store.len(),
-                list.as_ptr(),
-                list.len(),
-                at,
+                ask.list.as_ptr(),
+                ask.list.len(),
+                ask.at,
                 result.as_mut_ptr(),
                 result.len(),
             )

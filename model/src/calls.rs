@@ -1,10 +1,11 @@
-//! The three calls offered to C, on bytes, as the model answers them.
+//! The three calls offered to C, on bytes, as the model answers them:
+//! docs/LAYOUT.md.
 
-use crate::layout::{decode, encode, WORLD_BYTES};
+use crate::command::Ask;
+use crate::layout::{decode, encode, update, WORLD_BYTES};
 use crate::number;
-use crate::play::{one_command, play_list, Played};
-use crate::report::report;
-use crate::row::STORE_BYTES;
+use crate::play::{check_store, play_command, play_list_by, Played};
+use crate::report::{report, Numbers};
 use crate::world::World;
 
 /// Bytes of every result buffer.
@@ -16,71 +17,41 @@ pub trait Calls {
     fn play_list(&self, list: &[u8], store: &mut [u8], world: &mut [u8], result: &mut [u8]) -> u32;
 
     /// One command; a refusal touches nothing.
-    fn play_command(
-        &self,
-        world: &mut [u8],
-        store: &mut [u8],
-        list: &[u8],
-        at: usize,
-        result: &mut [u8],
-    ) -> u32;
+    fn play_command(&self, world: &mut [u8], store: &mut [u8], ask: Ask, result: &mut [u8]) -> u32;
 
     /// The report; a refusal touches nothing.
     fn report(&self, world: &[u8], numbers: Numbers, buffer: &mut [u8], result: &mut [u8]) -> u32;
 }
 
-/// The numbers that a report is asked for with.
-#[derive(Clone, Copy, Debug, PartialEq, Eq)]
-pub struct Numbers {
-    pub events: usize,
-    /// The stop number, 0 for none.
-    pub stop: u32,
-    pub place: usize,
-}
-
-/// The rules behind the calls: what a player does with worlds.
+/// The rules behind the calls: what a player does with worlds. As they stand
+/// they are the model's.
 pub trait Rules {
-    fn list(&self, store: &mut [u8], list: &[u8]) -> Played;
-
-    fn command(
-        &self,
-        world: &mut World,
-        store: &mut [u8],
-        list: &[u8],
-        at: usize,
-    ) -> Result<usize, u8>;
-
-    fn text(&self, world: &World, numbers: Numbers, buffer: &mut [u8]) -> Result<usize, u8>;
-}
-
-/// The model's own rules.
-pub struct Model;
-
-impl Rules for Model {
-    fn list(&self, store: &mut [u8], list: &[u8]) -> Played {
-        play_list(store, list)
+    /// One command, in a world and store already found good.
+    fn command(&self, world: &mut World, store: &mut [u8], ask: Ask) -> Result<usize, u8> {
+        play_command(world, store, ask)
     }
 
-    fn command(
-        &self,
-        world: &mut World,
-        store: &mut [u8],
-        list: &[u8],
-        at: usize,
-    ) -> Result<usize, u8> {
-        one_command(world, store, list, at)
+    /// A whole list, each command by the rule above.
+    fn list(&self, store: &mut [u8], list: &[u8]) -> Played {
+        play_list_by(store, list, |world, store, ask| {
+            self.command(world, store, ask)
+        })
     }
 
     fn text(&self, world: &World, numbers: Numbers, buffer: &mut [u8]) -> Result<usize, u8> {
-        let stop = u8::try_from(numbers.stop).map_err(|_| number::WORLD)?;
-        report(world, numbers.events, stop, numbers.place, buffer)
+        report(world, numbers, buffer)
     }
 }
 
+/// The model itself.
+pub struct Model;
+
+impl Rules for Model {}
+
 impl<R: Rules> Calls for R {
     fn play_list(&self, list: &[u8], store: &mut [u8], world: &mut [u8], result: &mut [u8]) -> u32 {
-        if store.len() < STORE_BYTES {
-            return number::STORE.into();
+        if let Err(number) = check_store(store) {
+            return number.into();
         }
         if world.len() != WORLD_BYTES || result.len() != RESULT_BYTES {
             return number::WORLD.into();
@@ -92,40 +63,38 @@ impl<R: Rules> Calls for R {
         played.number.into()
     }
 
-    fn play_command(
-        &self,
-        world: &mut [u8],
-        store: &mut [u8],
-        list: &[u8],
-        at: usize,
-        result: &mut [u8],
-    ) -> u32 {
-        if store.len() < STORE_BYTES {
-            return number::STORE.into();
-        }
-        let (Some(mut next), RESULT_BYTES) = (decode(world), result.len()) else {
-            return number::WORLD.into();
-        };
-        match self.command(&mut next, store, list, at) {
-            Ok(place) => {
-                world.copy_from_slice(&encode(&next));
-                result.copy_from_slice(&(place as u64).to_le_bytes());
-                number::NONE.into()
-            }
-            Err(refusal) => refusal.into(),
-        }
+    fn play_command(&self, world: &mut [u8], store: &mut [u8], ask: Ask, result: &mut [u8]) -> u32 {
+        let given = check_store(store).and_then(|()| world_for(world, result));
+        let place = given.and_then(|mut next| {
+            next.check()?;
+            let place = self.command(&mut next, store, ask)?;
+            update(world, &next);
+            Ok(place)
+        });
+        answer(place, result)
     }
 
     fn report(&self, world: &[u8], numbers: Numbers, buffer: &mut [u8], result: &mut [u8]) -> u32 {
-        let (Some(world), RESULT_BYTES) = (decode(world), result.len()) else {
-            return number::WORLD.into();
-        };
-        match self.text(&world, numbers, buffer) {
-            Ok(length) => {
-                result.copy_from_slice(&(length as u64).to_le_bytes());
-                number::NONE.into()
-            }
-            Err(refusal) => refusal.into(),
+        let size = world_for(world, result).and_then(|world| self.text(&world, numbers, buffer));
+        answer(size, result)
+    }
+}
+
+/// The world handed in, where the result buffer is as it should be.
+fn world_for(world: &[u8], result: &[u8]) -> Result<World, u8> {
+    if result.len() != RESULT_BYTES {
+        return Err(number::WORLD);
+    }
+    decode(world)
+}
+
+/// Writes what was found into the result, or gives the refusal.
+fn answer(found: Result<usize, u8>, result: &mut [u8]) -> u32 {
+    match found {
+        Ok(found) => {
+            result.copy_from_slice(&(found as u64).to_le_bytes());
+            number::NONE.into()
         }
+        Err(refusal) => refusal.into(),
     }
 }

@@ -2,6 +2,19 @@
 
 use crate::number;
 
+/// A list and the place of a command byte in it.
+#[derive(Clone, Copy, Debug)]
+pub struct Ask<'a> {
+    pub list: &'a [u8],
+    pub at: usize,
+}
+
+impl<'a> Ask<'a> {
+    pub const fn new(list: &'a [u8], at: usize) -> Ask<'a> {
+        Ask { list, at }
+    }
+}
+
 /// One command with its operands.
 #[derive(Clone, Copy, Debug, PartialEq, Eq, Hash)]
 pub enum Command {
@@ -13,29 +26,26 @@ pub enum Command {
 }
 
 impl Command {
-    /// Reads the command at a place, and says where the next one is.
-    pub fn read(list: &[u8], at: usize) -> Result<(Command, usize), u8> {
-        let (&byte, rest) = list
-            .get(at..)
-            .and_then(<[u8]>::split_first)
-            .ok_or(number::COMMAND)?;
-        let size = operand_bytes(byte).ok_or(number::COMMAND)?;
-        let operands = rest.get(..size).ok_or(number::CUT)?;
-        Ok((Command::from_parts(byte, operands), at + 1 + size))
+    /// Reads the command asked for, and says where the next one is.
+    pub fn read(ask: Ask) -> Result<(Command, usize), u8> {
+        let (command, size) = match *ask.list.get(ask.at..).unwrap_or_default() {
+            [1, ..] => (Command::Start, 1),
+            [2, low, high, site, ..] => {
+                let row = u16::from_le_bytes([low, high]).into();
+                (Command::deliver(row, site.into()), 4)
+            }
+            [3, site, ..] => (Command::Timeout(site.into()), 2),
+            [4, site, ..] => (Command::Crash(site.into()), 2),
+            [5, site, ..] => (Command::Recover(site.into()), 2),
+            [2..=5, ..] => return Err(number::CUT),
+            [] | [0 | 6.., ..] => return Err(number::COMMAND),
+        };
+        Ok((command, ask.at + size))
     }
 
-    /// Puts a command byte and its operands together.
-    fn from_parts(byte: u8, operands: &[u8]) -> Command {
-        match (byte, operands) {
-            (2, &[low, high, site]) => Command::Deliver {
-                row: usize::from(u16::from_le_bytes([low, high])),
-                site: site.into(),
-            },
-            (3, &[site]) => Command::Timeout(site.into()),
-            (4, &[site]) => Command::Crash(site.into()),
-            (5, &[site]) => Command::Recover(site.into()),
-            _ => Command::Start,
-        }
+    /// DELIVER of a row to a site.
+    pub const fn deliver(row: usize, site: usize) -> Command {
+        Command::Deliver { row, site }
     }
 
     /// The command as it stands in a list.
@@ -59,15 +69,5 @@ impl Command {
             Command::Deliver { site, .. } => site,
             Command::Timeout(site) | Command::Crash(site) | Command::Recover(site) => site,
         }
-    }
-}
-
-/// How many operand bytes follow a command byte.
-fn operand_bytes(byte: u8) -> Option<usize> {
-    match byte {
-        1 => Some(0),
-        2 => Some(3),
-        3..=5 => Some(1),
-        _ => None,
     }
 }

@@ -9,15 +9,18 @@ pub use call::Call;
 pub use rng::Rng;
 
 use crate::command::Command;
-use crate::play::HEADER_BYTES;
-use crate::world::{everyone, MAX_LIST, MAX_SITES, MIN_SITES};
+use crate::sizes::{everyone, Sizes, HEADER_BYTES, MAX_LIST, MAX_SITES, MIN_SITES};
 use guide::Guide;
+
+/// What a long list has at the least, in bytes.
+const LONG: usize = 4_000;
 
 /// A source of lists.
 pub struct Generator {
     rng: Rng,
-    /// Guided lists and duels get no longer than this, but for a last command
-    /// that is refused.
+    /// Guided lists and duels grow at least to this, if anything can happen.
+    least: usize,
+    /// They get no longer than this, but for a last command that is refused.
     most: usize,
 }
 
@@ -31,7 +34,17 @@ impl Generator {
     pub fn up_to(seed: u64, most: usize) -> Generator {
         Generator {
             rng: Rng::new(seed),
+            least: HEADER_BYTES,
             most: most.clamp(HEADER_BYTES, MAX_LIST),
+        }
+    }
+
+    /// One whose guided lists and duels get long; guided ones begin with a
+    /// quarrel half of the time.
+    pub fn long(seed: u64) -> Generator {
+        Generator {
+            least: LONG,
+            ..Generator::new(seed)
         }
     }
 
@@ -50,10 +63,11 @@ impl Generator {
 
     /// A list whose commands are accepted, but for the last one at times.
     pub fn next_guided(&mut self) -> Vec<u8> {
-        let (n, c, a) = sizes(&mut self.rng);
-        let willing = willing(&mut self.rng, n);
-        let limit = length(&mut self.rng).min(self.most);
-        let mut guide = Guide::new(n, c, a, willing, limit);
+        let sizes = sizes(&mut self.rng);
+        let mut guide = Guide::new(sizes, self.length());
+        if self.least >= LONG && self.rng.chance(50) {
+            guide.begin_with_quarrel(&mut self.rng);
+        }
         guide.wander(&mut self.rng);
         if self.rng.chance(60) {
             spoil::spoil(&mut guide, &mut self.rng);
@@ -69,10 +83,10 @@ impl Generator {
         let size = rng.below(most);
         match rng.below(3) {
             0 => rng.bytes(size),
-            1 => [random_header(rng), rng.bytes(size)].concat(),
+            1 => [sizes(rng).header().to_vec(), rng.bytes(size)].concat(),
             _ => {
                 let small = (0..size).map(|_| rng.below(6) as u8).collect();
-                [random_header(rng), small].concat()
+                [sizes(rng).header().to_vec(), small].concat()
             }
         }
     }
@@ -80,12 +94,7 @@ impl Generator {
     /// A guided list with one byte changed, in the header one time in four.
     pub fn next_damaged(&mut self) -> Vec<u8> {
         let mut list = self.next_guided();
-        let reach = if self.rng.chance(25) {
-            HEADER_BYTES
-        } else {
-            list.len()
-        };
-        let place = self.rng.below(reach);
+        let place = self.place_in(&list, 25);
         list[place] = self.other_byte(list[place]);
         list
     }
@@ -93,25 +102,27 @@ impl Generator {
     /// A guided list cut somewhere, in the header at times.
     pub fn next_truncated(&mut self) -> Vec<u8> {
         let mut list = self.next_guided();
-        let reach = if self.rng.chance(10) {
-            HEADER_BYTES
-        } else {
-            list.len()
-        };
-        list.truncate(self.rng.below(reach));
+        list.truncate(self.place_in(&list, 10));
         list
+    }
+
+    /// A place in a list, so many times in a hundred in its header.
+    fn place_in(&mut self, list: &[u8], percent: usize) -> usize {
+        let in_header = self.rng.chance(percent);
+        self.rng
+            .below(if in_header { HEADER_BYTES } else { list.len() })
     }
 
     /// A quiet day of any sizes.
     pub fn next_quiet(&mut self) -> Vec<u8> {
-        let (n, c, a) = sizes(&mut self.rng);
-        quiet_day(n as u8, c as u8, a as u8)
+        let [n, c, a, ..] = sizes(&mut self.rng).header();
+        quiet_day(n, c, a)
     }
 
     /// A duel of any size.
     pub fn next_duel(&mut self) -> Vec<u8> {
         let n = self.rng.between(MIN_SITES, MAX_SITES);
-        let bytes = self.rng.between(HEADER_BYTES, self.most);
+        let bytes = self.rng.between(self.least, self.most);
         duel(n as u8, self.rng.draw(), bytes)
     }
 
@@ -130,6 +141,23 @@ impl Generator {
         call::any(&mut self.rng)
     }
 
+    /// How long a guided list may get.
+    fn length(&mut self) -> usize {
+        let rng = &mut self.rng;
+        let bytes = match rng.below(100) {
+            0..=2 => HEADER_BYTES,
+            3..=37 => rng.between(HEADER_BYTES + 1, 100),
+            38..=79 => rng.between(101, 1_500),
+            80..=93 => rng.between(1_501, 6_000),
+            94..=98 => rng.between(6_001, MAX_LIST),
+            _ => MAX_LIST,
+        };
+        if bytes < self.least {
+            return rng.between(self.least, 3 * self.least);
+        }
+        bytes.min(self.most)
+    }
+
     /// A byte that differs from this one: near it, by a bit, or anything.
     fn other_byte(&mut self, byte: u8) -> u8 {
         match self.rng.below(3) {
@@ -140,24 +168,25 @@ impl Generator {
     }
 }
 
+/// A list of commands.
+pub fn list_of(sizes: Sizes, commands: &[Command]) -> Vec<u8> {
+    let commands = commands.iter().flat_map(|command| command.bytes());
+    sizes.header().into_iter().chain(commands).collect()
+}
+
 /// A day without trouble: everyone prepares, joins and commits. That is
 /// 3 + 6(n - 1) commands and 3n rows.
 pub fn quiet_day(n: u8, c: u8, a: u8) -> Vec<u8> {
     let n = usize::from(n);
-    let mut list = header(n, c.into(), a.into(), everyone(n));
+    let mut commands = Vec::new();
     let openings = [Command::Start, Command::Timeout(0), Command::Timeout(0)];
-    for (round, opening) in openings.iter().enumerate() {
-        let first = round * n;
-        list.extend(opening.bytes());
-        for site in 1..n {
-            list.extend(Command::Deliver { row: first, site }.bytes());
-        }
-        for reply in 1..n {
-            let row = first + reply;
-            list.extend(Command::Deliver { row, site: 0 }.bytes());
-        }
+    for (round, opening) in openings.into_iter().enumerate() {
+        let row = round * n;
+        commands.push(opening);
+        commands.extend((1..n).map(|site| Command::deliver(row, site)));
+        commands.extend((1..n).map(|reply| Command::deliver(row + reply, 0)));
     }
-    list
+    list_of(Sizes::new(n, c.into(), a.into(), everyone(n)), &commands)
 }
 
 /// A long duel that nobody wins: joins for both groups, crashes, repeats,
@@ -168,29 +197,18 @@ pub fn duel(n: u8, seed: u64, bytes: usize) -> Vec<u8> {
     let mut rng = Rng::new(seed);
     let n = usize::from(n).clamp(MIN_SITES, MAX_SITES);
     let (c, a) = quorums(&mut rng, n);
-    let mut guide = Guide::new(n, c, a, everyone(n), bytes.min(MAX_LIST));
+    let sizes = Sizes::new(n, c, a, everyone(n));
+    let mut guide = Guide::new(sizes, bytes.min(MAX_LIST));
     guide.quarrel(&mut rng);
     guide.list
 }
 
-/// A list's header.
-pub fn header(n: usize, c: usize, a: usize, willing: u16) -> Vec<u8> {
-    let [low, high] = willing.to_le_bytes();
-    vec![n as u8, c as u8, a as u8, low, high]
-}
-
-/// A header that passes.
-fn random_header(rng: &mut Rng) -> Vec<u8> {
-    let (n, c, a) = sizes(rng);
-    header(n, c, a, willing(rng, n))
-}
-
-/// Legal sizes, small ones more often.
-fn sizes(rng: &mut Rng) -> (usize, usize, usize) {
+/// Sizes that pass, small ones more often.
+fn sizes(rng: &mut Rng) -> Sizes {
     let most = rng.choose(&[5, MAX_SITES]);
     let n = rng.between(MIN_SITES, most);
     let (c, a) = quorums(rng, n);
-    (n, c, a)
+    Sizes::new(n, c, a, willing(rng, n))
 }
 
 /// Legal quorums, as small as can be half of the time.
@@ -212,17 +230,5 @@ fn willing(rng: &mut Rng, n: usize) -> u16 {
         0..=7 => all,
         8 => all & !(1 << rng.below(n)),
         _ => all & rng.draw() as u16,
-    }
-}
-
-/// How long a guided list may get.
-fn length(rng: &mut Rng) -> usize {
-    match rng.below(100) {
-        0..=2 => HEADER_BYTES,
-        3..=37 => rng.between(HEADER_BYTES + 1, 100),
-        38..=79 => rng.between(101, 1_500),
-        80..=93 => rng.between(1_501, 6_000),
-        94..=98 => rng.between(6_001, MAX_LIST),
-        _ => MAX_LIST,
     }
 }

@@ -1,9 +1,15 @@
-//! The world as bytes, the way it crosses to C.
+//! The world as bytes, the way it crosses to C: docs/LAYOUT.md.
 //!
 //! 656 bytes: a head of 16, then 40 for each of the sixteen sites. Numbers of
 //! two bytes have the low byte first.
 
-use crate::world::{Codes, Side, Site, World, MAX_SITES};
+use std::ops::Range;
+
+use crate::number;
+use crate::site::{GroupRecord, Log, Role, Side, Site};
+use crate::sizes::Sizes;
+use crate::vector::Vector;
+use crate::world::World;
 
 /// Bytes of a world.
 pub const WORLD_BYTES: usize = 656;
@@ -13,72 +19,114 @@ pub const HEAD_BYTES: usize = 16;
 pub const SITE_BYTES: usize = 40;
 /// The layout's own number, the first byte.
 pub const LAYOUT: u8 = 1;
+/// A site's codes, seen from the site's first byte.
+pub const CODES: Range<usize> = 8..24;
+/// The codes of its group record.
+pub const GROUP_CODES: Range<usize> = 24..40;
 
 /// The world's bytes. A number too large for its field becomes the largest
 /// that fits, which is as bad for the check on worlds.
 pub fn encode(world: &World) -> [u8; WORLD_BYTES] {
     let mut bytes = [0; WORLD_BYTES];
     bytes[0] = LAYOUT;
-    bytes[1] = world.n.min(255) as u8;
-    bytes[2..4].copy_from_slice(&word(world.commit));
-    bytes[4..6].copy_from_slice(&word(world.abort));
-    bytes[6..8].copy_from_slice(&world.willing.to_le_bytes());
-    bytes[8..10].copy_from_slice(&word(world.rows));
-    for (place, site) in bytes[HEAD_BYTES..]
-        .chunks_exact_mut(SITE_BYTES)
-        .zip(&world.sites)
-    {
-        encode_site(place, site);
-    }
+    update(&mut bytes, world);
     bytes
 }
 
-fn encode_site(bytes: &mut [u8], site: &Site) {
-    bytes[0] = site.up.into();
-    bytes[1] = site.coordinator.into();
-    bytes[2] = site.prepared.into();
-    bytes[3] = side_byte(site.group);
-    bytes[4] = side_byte(site.outcome);
-    bytes[8..24].copy_from_slice(&site.codes);
-    bytes[24..40].copy_from_slice(&site.joined);
+/// Writes a world over the bytes of an earlier one. Site records from n up
+/// never change, so their bytes stay.
+pub fn update(bytes: &mut [u8], world: &World) {
+    let sizes = &world.sizes;
+    bytes[1] = sizes.n.min(255) as u8;
+    bytes[2..4].copy_from_slice(&word(sizes.commit_quorum));
+    bytes[4..6].copy_from_slice(&word(sizes.abort_quorum));
+    bytes[6..8].copy_from_slice(&sizes.willing.to_le_bytes());
+    bytes[8..10].copy_from_slice(&word(world.row_count));
+    let places = bytes[HEAD_BYTES..].chunks_exact_mut(SITE_BYTES);
+    for (place, site) in places.zip(world.members()) {
+        encode_site(place, site);
+    }
 }
 
-/// The world that the bytes say; none if they are outside the layout.
-pub fn decode(bytes: &[u8]) -> Option<World> {
-    if bytes.len() != WORLD_BYTES || bytes[0] != LAYOUT || !zeros(&bytes[10..HEAD_BYTES]) {
-        return None;
+fn encode_site(bytes: &mut [u8], site: &Site) {
+    let group_vector = site.log.group.map_or(Vector::ZEROS, |record| record.vector);
+    bytes[0] = site.up.into();
+    bytes[1] = site.is_coordinator().into();
+    bytes[2] = site.log.prepare.into();
+    bytes[3] = side_byte(site.log.group_side());
+    bytes[4] = side_byte(site.log.outcome);
+    bytes[CODES].copy_from_slice(site.vector.codes());
+    bytes[GROUP_CODES].copy_from_slice(group_vector.codes());
+}
+
+/// The world that the bytes say. The refusal is 17: for bytes outside the
+/// layout, and for what no site of a world can hold. Of site records from n up
+/// the layout alone is asked, and they come out idle.
+pub fn decode(bytes: &[u8]) -> Result<World, u8> {
+    if !is_inside(bytes) {
+        return Err(number::WORLD);
     }
-    let mut world = World {
+    let sizes = Sizes {
         n: bytes[1].into(),
-        commit: word_at(bytes, 2).into(),
-        abort: word_at(bytes, 4).into(),
+        commit_quorum: word_at(bytes, 2).into(),
+        abort_quorum: word_at(bytes, 4).into(),
         willing: word_at(bytes, 6),
-        rows: word_at(bytes, 8).into(),
+    };
+    let mut world = World {
+        sizes,
+        row_count: word_at(bytes, 8).into(),
         ..World::ZEROS
     };
-    for (site, place) in world
-        .sites
-        .iter_mut()
-        .zip(bytes[HEAD_BYTES..].chunks_exact(SITE_BYTES))
-    {
-        *site = decode_site(place)?;
+    for (site, place) in world.sites.iter_mut().zip(sites(bytes)).take(sizes.n) {
+        *site = decode_site(place).ok_or(number::WORLD)?;
     }
-    Some(world)
+    Ok(world)
 }
 
+/// None for a code above 5, or a group's vector without a group.
 fn decode_site(bytes: &[u8]) -> Option<Site> {
-    if !zeros(&bytes[5..8]) {
+    let group_vector = Vector::read(&bytes[GROUP_CODES])?;
+    let group = side(bytes[3]).map(|side| GroupRecord {
+        side,
+        vector: group_vector,
+    });
+    if group.is_none() && group_vector != Vector::ZEROS {
         return None;
     }
+    let role = match bytes[1] {
+        0 => Role::Subordinate,
+        _ => Role::Coordinator,
+    };
     Some(Site {
-        up: flag(bytes[0])?,
-        coordinator: flag(bytes[1])?,
-        prepared: flag(bytes[2])?,
-        group: side(bytes[3])?,
-        outcome: side(bytes[4])?,
-        codes: codes_at(bytes, 8),
-        joined: codes_at(bytes, 24),
+        up: bytes[0] == 1,
+        role,
+        log: Log {
+            prepare: bytes[2] == 1,
+            group,
+            outcome: side(bytes[4]),
+        },
+        vector: Vector::read(&bytes[CODES])?,
     })
+}
+
+/// Are the bytes inside the layout?
+fn is_inside(bytes: &[u8]) -> bool {
+    bytes.len() == WORLD_BYTES
+        && bytes[0] == LAYOUT
+        && bytes[10..HEAD_BYTES].iter().all(|&byte| byte == 0)
+        && sites(bytes).all(is_site_inside)
+}
+
+/// Three flags, two sides, three bytes of 0, and any codes.
+fn is_site_inside(bytes: &[u8]) -> bool {
+    bytes[..3].iter().all(|&flag| flag <= 1)
+        && bytes[3..5].iter().all(|&side| side <= 2)
+        && bytes[5..8].iter().all(|&byte| byte == 0)
+}
+
+/// The sixteen site records.
+fn sites(bytes: &[u8]) -> impl Iterator<Item = &[u8]> {
+    bytes[HEAD_BYTES..].chunks_exact(SITE_BYTES)
 }
 
 fn word(number: usize) -> [u8; 2] {
@@ -97,29 +145,10 @@ fn side_byte(side: Option<Side>) -> u8 {
     }
 }
 
-fn side(byte: u8) -> Option<Option<Side>> {
+fn side(byte: u8) -> Option<Side> {
     match byte {
-        0 => Some(None),
-        1 => Some(Some(Side::Commit)),
-        2 => Some(Some(Side::Abort)),
+        1 => Some(Side::Commit),
+        2 => Some(Side::Abort),
         _ => None,
     }
-}
-
-fn flag(byte: u8) -> Option<bool> {
-    match byte {
-        0 => Some(false),
-        1 => Some(true),
-        _ => None,
-    }
-}
-
-fn codes_at(bytes: &[u8], at: usize) -> Codes {
-    let mut codes = [0; MAX_SITES];
-    codes.copy_from_slice(&bytes[at..at + MAX_SITES]);
-    codes
-}
-
-fn zeros(bytes: &[u8]) -> bool {
-    bytes.iter().all(|&byte| byte == 0)
 }

@@ -1,7 +1,9 @@
 //! An independent model of the quorum commitment player for inter-club sheets.
 //!
-//! It is written from the paper alone, with mutable state and plain Rust, so
-//! that another player can be compared with it.
+//! The rules, the checks and the report are written from document 01, with
+//! mutable state and plain Rust, so that another player can be compared with
+//! them. Only layout.rs and calls.rs follow docs/LAYOUT.md: they say how a
+//! world and the answers cross to C.
 
 #![forbid(unsafe_code)]
 
@@ -13,11 +15,18 @@ pub mod number;
 pub mod play;
 pub mod report;
 pub mod row;
+pub mod site;
+pub mod sizes;
 pub mod step;
+pub mod tally;
+pub mod vector;
 pub mod world;
 
-pub use command::Command;
+pub use command::{Ask, Command};
 pub use play::{one_command, play_list, Played};
-pub use report::{printed, report};
+pub use report::{printed, report, Numbers};
 pub use row::{Kind, Row};
-pub use world::{Side, Site, State, World};
+pub use site::{GroupRecord, Log, Role, Side, Site, State};
+pub use sizes::Sizes;
+pub use vector::Vector;
+pub use world::World;

@@ -1,13 +1,13 @@
 //! Playing: one command, and a whole list.
 
-use crate::command::Command;
+use crate::command::{Ask, Command};
 use crate::number;
+use crate::report::Numbers;
 use crate::row::{Row, STORE_BYTES};
+use crate::site::State;
+use crate::sizes::{Sizes, HEADER_BYTES, MAX_LIST};
 use crate::step::Actor;
-use crate::world::{check_sizes, Site, State, World, MAX_LIST, MAX_ROWS};
-
-/// Bytes in a list's header.
-pub const HEADER_BYTES: usize = 5;
+use crate::world::{World, MAX_ROWS};
 
 /// What comes of playing a list.
 #[derive(Clone, Copy, Debug, PartialEq, Eq)]
@@ -21,27 +21,39 @@ pub struct Played {
     pub place: usize,
 }
 
-/// Plays the command at a place. Gives the place after it, or the number of
+impl Played {
+    /// What a report of this is asked for with.
+    pub fn numbers(&self) -> Numbers {
+        Numbers {
+            events: self.events,
+            stop: self.number.into(),
+            place: self.place,
+        }
+    }
+}
+
+/// Plays the command asked for. Gives the place after it, or the number of
 /// the refusal; a refusal changes neither world nor store.
-pub fn one_command(
-    world: &mut World,
-    store: &mut [u8],
-    list: &[u8],
-    at: usize,
-) -> Result<usize, u8> {
-    if store.len() < STORE_BYTES {
-        return Err(number::STORE);
-    }
-    if !world.is_valid() {
-        return Err(number::WORLD);
-    }
-    play_command(world, store, list, at)
+pub fn one_command(world: &mut World, store: &mut [u8], ask: Ask) -> Result<usize, u8> {
+    check_store(store)?;
+    world.check()?;
+    play_command(world, store, ask)
 }
 
 /// Plays a whole list from its header's fresh world.
 pub fn play_list(store: &mut [u8], list: &[u8]) -> Played {
+    play_list_by(store, list, play_command)
+}
+
+/// Plays a whole list with another way of playing a command, which gets worlds
+/// and stores already found good.
+pub fn play_list_by(
+    store: &mut [u8],
+    list: &[u8],
+    play: impl FnMut(&mut World, &mut [u8], Ask) -> Result<usize, u8>,
+) -> Played {
     match open_list(store, list) {
-        Ok(world) => play_commands(world, store, list),
+        Ok(world) => play_commands(world, store, list, play),
         Err(number) => Played {
             number,
             world: World::ZEROS,
@@ -51,32 +63,40 @@ pub fn play_list(store: &mut [u8], list: &[u8]) -> Played {
     }
 }
 
-/// The checks on store, length and header, and the header's world.
-fn open_list(store: &[u8], list: &[u8]) -> Result<World, u8> {
+/// Check 16.
+pub fn check_store(store: &[u8]) -> Result<(), u8> {
     if store.len() < STORE_BYTES {
         return Err(number::STORE);
     }
+    Ok(())
+}
+
+/// The checks on store, length and header, and the header's world.
+fn open_list(store: &[u8], list: &[u8]) -> Result<World, u8> {
+    check_store(store)?;
     if list.len() > MAX_LIST {
         return Err(number::LIST_LONG);
     }
-    let Some(&[n, commit, abort, low, high]) = list.first_chunk::<HEADER_BYTES>() else {
-        return Err(number::LIST_SHORT);
-    };
-    let (n, commit, abort) = (n.into(), commit.into(), abort.into());
-    let willing = u16::from_le_bytes([low, high]);
-    check_sizes(n, commit, abort, willing)?;
-    Ok(World::fresh(n, commit, abort, willing))
+    let header = list.first_chunk::<HEADER_BYTES>();
+    let sizes = Sizes::of_header(*header.ok_or(number::LIST_SHORT)?);
+    sizes.check()?;
+    Ok(World::fresh(sizes))
 }
 
 /// Plays command after command, to the list's end or a refusal.
-fn play_commands(mut world: World, store: &mut [u8], list: &[u8]) -> Played {
-    let mut place = HEADER_BYTES;
+fn play_commands(
+    mut world: World,
+    store: &mut [u8],
+    list: &[u8],
+    mut play: impl FnMut(&mut World, &mut [u8], Ask) -> Result<usize, u8>,
+) -> Played {
+    let mut at = HEADER_BYTES;
     let mut events = 0;
     let mut number = number::NONE;
-    while place < list.len() {
-        match play_command(&mut world, store, list, place) {
+    while at < list.len() {
+        match play(&mut world, store, Ask::new(list, at)) {
             Ok(next) => {
-                place = next;
+                at = next;
                 events += 1;
             }
             Err(refusal) => {
@@ -89,44 +109,41 @@ fn play_commands(mut world: World, store: &mut [u8], list: &[u8]) -> Played {
         number,
         world,
         events,
-        place,
+        place: at,
     }
 }
 
 /// One command, in a world and store already found good.
-pub(crate) fn play_command(
-    world: &mut World,
-    store: &mut [u8],
-    list: &[u8],
-    at: usize,
-) -> Result<usize, u8> {
-    let (command, next) = Command::read(list, at)?;
+pub fn play_command(world: &mut World, store: &mut [u8], ask: Ask) -> Result<usize, u8> {
+    let (command, next) = Command::read(ask)?;
     let told = check_operands(world, store, command)?;
     check_site(world, command)?;
-    let (site, sent) = step(world, command, told.as_ref());
-    if let Some(row) = sent {
-        if world.rows == MAX_ROWS {
-            return Err(number::FULL);
-        }
-        row.write(store, world.rows);
-        world.rows += 1;
+    check_room(world, command, told.as_ref())?;
+    let me = command.site();
+    let mut actor = Actor {
+        sizes: &world.sizes,
+        me,
+        site: &mut world.sites[me],
+    };
+    if let Some(row) = actor.act(command, told.as_ref()) {
+        row.write(store, world.row_count);
+        world.row_count += 1;
     }
-    world.sites[command.site()] = site;
     Ok(next)
 }
 
 /// Checks 8 to 11; gives the row that a DELIVER names.
 fn check_operands(world: &World, store: &[u8], command: Command) -> Result<Option<Row>, u8> {
-    if command.site() >= world.n {
+    if command.site() >= world.sizes.n {
         return Err(number::SITE);
     }
     let Command::Deliver { row, site } = command else {
         return Ok(None);
     };
-    if row >= world.rows {
+    if row >= world.row_count {
         return Err(number::ROW);
     }
-    let row = Row::read(store, row, world.n).ok_or(number::BAD_ROW)?;
+    let row = Row::read(store, row, world.sizes.n).ok_or(number::BAD_ROW)?;
     if !row.goes_to(site) {
         return Err(number::NOT_SENT);
     }
@@ -145,16 +162,16 @@ fn check_site(world: &World, command: Command) -> Result<(), u8> {
     }
 }
 
-/// The site after the command, and the row to be sent.
-fn step(world: &World, command: Command, told: Option<&Row>) -> (Site, Option<Row>) {
-    let mut actor = Actor::new(world, command.site());
-    let mut sent = None;
-    match command {
-        Command::Start => sent = Some(actor.start()),
-        Command::Deliver { .. } => sent = told.and_then(|row| actor.deliver(row)),
-        Command::Timeout(_) => sent = actor.timeout(),
-        Command::Crash(_) => actor.crash(),
-        Command::Recover(_) => actor.recover(),
+/// Check 15: a row is to be added and the store is full.
+fn check_room(world: &World, command: Command, told: Option<&Row>) -> Result<(), u8> {
+    let adds_row = match command {
+        Command::Start => true,
+        Command::Deliver { .. } => told.is_some_and(|row| row.kind.reply().is_some()),
+        Command::Timeout(site) => world.sites[site].state() != State::Active,
+        Command::Crash(_) | Command::Recover(_) => false,
+    };
+    if adds_row && world.row_count == MAX_ROWS {
+        return Err(number::FULL);
     }
-    (actor.site, sent)
+    Ok(())
 }

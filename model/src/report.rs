@@ -5,29 +5,43 @@ use std::fmt::Write;
 use crate::number;
 use crate::play::play_list;
 use crate::row::STORE_BYTES;
-use crate::world::{Side, Site, World, MAX_LIST};
+use crate::site::{Log, Role, Side, Site};
+use crate::sizes::{Sizes, MAX_LIST};
+use crate::world::World;
 
 /// Bytes a report buffer must have.
 pub const REPORT_BYTES: usize = 1024;
 
+/// The numbers that a report is asked for with.
+#[derive(Clone, Copy, Debug, PartialEq, Eq)]
+pub struct Numbers {
+    /// Accepted commands.
+    pub events: usize,
+    /// The stop number, 0 for none.
+    pub stop: u32,
+    /// The end place.
+    pub place: usize,
+}
+
+impl Numbers {
+    fn check(&self) -> Result<(), u8> {
+        if self.events > MAX_LIST || self.place > MAX_LIST || self.stop > number::LAST.into() {
+            return Err(number::WORLD);
+        }
+        Ok(())
+    }
+}
+
 /// Writes the report into the buffer and gives its length. A refusal leaves
 /// the buffer as it was, and so are the bytes beyond the text.
-pub fn report(
-    world: &World,
-    events: usize,
-    number: u8,
-    place: usize,
-    buf: &mut [u8],
-) -> Result<usize, u8> {
-    let numbers_fit = events <= MAX_LIST && place <= MAX_LIST && number <= number::LAST;
-    if !world.is_valid() || !numbers_fit {
-        return Err(number::WORLD);
-    }
-    if buf.len() < REPORT_BYTES {
+pub fn report(world: &World, numbers: Numbers, buffer: &mut [u8]) -> Result<usize, u8> {
+    world.check()?;
+    numbers.check()?;
+    if buffer.len() < REPORT_BYTES {
         return Err(number::BUFFER);
     }
-    let text = lines(world, events, number, place);
-    buf[..text.len()].copy_from_slice(text.as_bytes());
+    let text = lines(world, numbers);
+    buffer[..text.len()].copy_from_slice(text.as_bytes());
     Ok(text.len())
 }
 
@@ -35,42 +49,43 @@ pub fn report(
 pub fn printed(list: &[u8]) -> String {
     let mut store = vec![0; STORE_BYTES];
     let played = play_list(&mut store, list);
+    let numbers = played.numbers();
     match played.number {
-        number::LIST_LONG..=number::WILLING => last_line(played.number, played.place),
-        _ => lines(&played.world, played.events, played.number, played.place),
+        number::LIST_LONG..=number::WILLING => last_line(numbers),
+        _ => lines(&played.world, numbers),
     }
 }
 
 /// All lines of the report.
-fn lines(world: &World, events: usize, number: u8, place: usize) -> String {
-    let mut text = first_line(world, events);
+fn lines(world: &World, numbers: Numbers) -> String {
+    let mut text = first_line(world, numbers.events);
     for (me, site) in world.members().iter().enumerate() {
-        text += &site_line(me, site, world.n);
+        text += &site_line(me, site, world.sizes.n);
     }
-    text + &last_line(number, place)
+    text + &last_line(numbers)
 }
 
 fn first_line(world: &World, events: usize) -> String {
-    format!(
-        "sites {} commit {} abort {} events {} rows {}\n",
-        world.n, world.commit, world.abort, events, world.rows
-    )
+    let Sizes {
+        n,
+        commit_quorum,
+        abort_quorum,
+        ..
+    } = world.sizes;
+    let rows = world.row_count;
+    format!("sites {n} commit {commit_quorum} abort {abort_quorum} events {events} rows {rows}\n")
 }
 
 fn site_line(me: usize, site: &Site, n: usize) -> String {
-    let mut line = format!(
-        "{} {} {} {} {} ",
-        me,
-        if site.up { "up" } else { "down" },
-        if site.coordinator {
-            "coordinator"
-        } else {
-            "subordinate"
-        },
-        site.state().name(),
-        log_letters(site),
-    );
-    for code in &site.codes[..n] {
+    let up = if site.up { "up" } else { "down" };
+    let role = match site.role {
+        Role::Subordinate => "subordinate",
+        Role::Coordinator => "coordinator",
+    };
+    let state = site.state().name();
+    let log = log_letters(&site.log);
+    let mut line = format!("{me} {up} {role} {state} {log} ");
+    for code in &site.vector.codes()[..n] {
         write!(line, "{code}").expect("a string takes all");
     }
     line.push('\n');
@@ -78,10 +93,10 @@ fn site_line(me: usize, site: &Site, n: usize) -> String {
 }
 
 /// The three places of the log.
-fn log_letters(site: &Site) -> String {
-    let prepare = if site.prepared { 'P' } else { '-' };
-    let group = side_letter(site.group, 'C', 'A');
-    let outcome = side_letter(site.outcome, 'c', 'a');
+fn log_letters(log: &Log) -> String {
+    let prepare = if log.prepare { 'P' } else { '-' };
+    let group = side_letter(log.group_side(), 'C', 'A');
+    let outcome = side_letter(log.outcome, 'c', 'a');
     [prepare, group, outcome].iter().collect()
 }
 
@@ -93,9 +108,9 @@ fn side_letter(side: Option<Side>, commit: char, abort: char) -> char {
     }
 }
 
-fn last_line(number: u8, place: usize) -> String {
-    match number {
-        number::NONE => format!("end {place}\n"),
-        _ => format!("refused {number} at {place}\n"),
+fn last_line(Numbers { stop, place, .. }: Numbers) -> String {
+    match stop {
+        0 => format!("end {place}\n"),
+        _ => format!("refused {stop} at {place}\n"),
     }
 }

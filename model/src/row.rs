@@ -1,6 +1,8 @@
 //! Rows: the messages sent, as they lie in the lent store.
 
-use crate::world::{Codes, Side, State, MAX_CODE, MAX_ROWS, MAX_SITES};
+use crate::site::{Side, State};
+use crate::vector::Vector;
+use crate::world::MAX_ROWS;
 
 /// Bytes in one row.
 pub const ROW_BYTES: usize = 20;
@@ -61,8 +63,8 @@ impl Kind {
         match state {
             State::Active => None,
             State::Prepared => Some(Kind::Prepare),
-            State::Joined(side) => Some(Kind::Join(side)),
-            State::Ended(_) => Some(Kind::Outcome),
+            State::InGroup(side) => Some(Kind::Join(side)),
+            State::Terminated(_) => Some(Kind::Outcome),
         }
     }
 }
@@ -75,7 +77,7 @@ pub struct Row {
     /// Destinations, a bit for each site.
     pub to: u16,
     /// The sender's vector after its step.
-    pub codes: Codes,
+    pub vector: Vector,
 }
 
 impl Row {
@@ -85,17 +87,12 @@ impl Row {
         let bytes = &store[at * ROW_BYTES..][..ROW_BYTES];
         let kind = Kind::of(bytes[0])?;
         let sender = usize::from(bytes[1]);
-        let told = &bytes[4..4 + n];
-        if sender >= n || told.iter().any(|&code| code > MAX_CODE) {
-            return None;
-        }
-        let mut codes = [0; MAX_SITES];
-        codes[..n].copy_from_slice(told);
-        Some(Row {
+        let vector = Vector::read(&bytes[4..4 + n])?;
+        (sender < n).then_some(Row {
             kind,
             sender,
             to: u16::from_le_bytes([bytes[2], bytes[3]]),
-            codes,
+            vector,
         })
     }
 
@@ -110,7 +107,7 @@ impl Row {
         bytes[0] = self.kind.byte();
         bytes[1] = self.sender as u8;
         bytes[2..4].copy_from_slice(&self.to.to_le_bytes());
-        bytes[4..].copy_from_slice(&self.codes);
+        bytes[4..].copy_from_slice(self.vector.codes());
         bytes
     }
 

@@ -1,33 +1,15 @@
 //! The worked days of the paper.
 
-use model::generate::{header, quiet_day};
-use model::row::{ROW_BYTES, STORE_BYTES};
-use model::{play_list, printed, Command, Kind, Played, Row, Side, Site, State, World};
+mod common;
 
+use model::generate::{list_of, quiet_day};
+use model::row::{ROW_BYTES, STORE_BYTES};
+use model::{play_list, printed, Command, Kind, Played, Row, Side, Site, Sizes, State, World};
+
+use common::{header, rows_of_site_0, three, three_sites, M3_LIST, M3_REPORT, TWO_AGAINST};
 use Command::{Crash, Recover, Start, Timeout};
 
-/// A list of three clubs with these willing bits and commands.
-fn three(willing: u16, commands: &[Command]) -> Vec<u8> {
-    let mut list = header(3, 2, 2, willing);
-    list.extend(commands.iter().flat_map(|command| command.bytes()));
-    list
-}
-
-const fn deliver(row: usize, site: usize) -> Command {
-    Command::Deliver { row, site }
-}
-
-/// Sites 0 and 2 in the abort group, and site 0 knows it.
-const TWO_AGAINST: [Command; 6] = [
-    Start,
-    deliver(0, 1),
-    deliver(1, 0),
-    Timeout(0),
-    deliver(2, 2),
-    deliver(3, 0),
-];
-
-/// Those commands and then some.
+/// Two sites in the abort group, and then some commands.
 fn two_against(then: &[Command]) -> Vec<u8> {
     three(7, &[&TWO_AGAINST[..], then].concat())
 }
@@ -42,7 +24,7 @@ impl Day {
     fn new(list: &[u8]) -> Day {
         let mut store = vec![0xee; STORE_BYTES];
         let played = play_list(&mut store, list);
-        let used = played.world.rows * ROW_BYTES;
+        let used = played.world.row_count * ROW_BYTES;
         assert!(store[used..].iter().all(|&byte| byte == 0xee));
         Day { played, store }
     }
@@ -52,23 +34,23 @@ impl Day {
     }
 
     fn codes(&self, site: usize) -> &[u8] {
-        &self.site(site).codes[..self.played.world.n]
+        &self.site(site).vector.codes()[..self.played.world.sizes.n]
     }
 
     fn row(&self, at: usize) -> Row {
-        Row::read(&self.store, at, self.played.world.n).unwrap()
+        Row::read(&self.store, at, self.played.world.sizes.n).unwrap()
     }
 
     fn log(&self, site: usize) -> (bool, Option<Side>, Option<Side>) {
-        let site = self.site(site);
-        (site.prepared, site.group, site.outcome)
+        let log = self.site(site).log;
+        (log.prepare, log.group_side(), log.outcome)
     }
 
     /// Played to the end, with so many events and rows.
     fn assert_accepted(&self, events: usize, rows: usize) {
         assert_eq!(self.played.number, 0);
         assert_eq!(self.played.events, events);
-        assert_eq!(self.played.world.rows, rows);
+        assert_eq!(self.played.world.row_count, rows);
     }
 
     /// Stopped with a number at a place, after so many events.
@@ -84,7 +66,7 @@ fn m1_header_only() {
     let day = Day::new(&three(7, &[]));
     day.assert_accepted(0, 0);
     assert_eq!(day.played.place, 5);
-    assert_eq!(day.played.world, World::fresh(3, 2, 2, 7));
+    assert_eq!(day.played.world, World::fresh(three_sites(7)));
     assert!((0..3).all(|site| day.site(site).up && day.site(site).state() == State::Active));
 }
 
@@ -93,23 +75,15 @@ fn m2_start() {
     let day = Day::new(&three(7, &[Start]));
     day.assert_accepted(1, 1);
     assert_eq!(day.log(0), (true, None, None));
-    assert!(day.site(0).coordinator);
+    assert!(day.site(0).is_coordinator());
     let row = [1, 0, 6, 0, 1, 0, 0, 0, 0, 0, 0, 0, 0, 0, 0, 0, 0, 0, 0, 0];
     assert_eq!(day.store[..ROW_BYTES], row);
 }
 
 #[test]
 fn m3_the_printed_report() {
-    let list = [
-        0x03, 0x02, 0x02, 0x07, 0x00, 0x01, 0x02, 0x00, 0x00, 0x01, 0x02, 0x01, 0x00, 0x00, 0x03,
-        0x00, 0x02, 0x02, 0x00, 0x02, 0x02, 0x03, 0x00, 0x00, 0x03, 0x00,
-    ];
-    let text = "sites 3 commit 2 abort 2 events 7 rows 5\n\
-                0 up coordinator aborted PAa 513\n\
-                1 up subordinate prepared P-- 110\n\
-                2 up subordinate abort-group -A- 313\n\
-                end 26\n";
-    assert_eq!(printed(&list), text);
+    assert_eq!(printed(&M3_LIST), M3_REPORT);
+    assert_eq!(two_against(&[Timeout(0)]), M3_LIST);
 }
 
 #[test]
@@ -121,11 +95,14 @@ fn a_stopped_list_names_number_and_place() {
 
 #[test]
 fn m4_an_unwilling_site() {
-    let before = Day::new(&three(5, &[Start, deliver(0, 1)]));
+    let before = Day::new(&three(5, &[Start, Command::deliver(0, 1)]));
     before.assert_accepted(2, 2);
     assert_eq!(before.log(1), (false, None, Some(Side::Abort)));
     assert_eq!(before.codes(1), [1, 5, 0]);
-    let after = Day::new(&three(5, &[Start, deliver(0, 1), deliver(1, 0)]));
+    let after = Day::new(&three(
+        5,
+        &[Start, Command::deliver(0, 1), Command::deliver(1, 0)],
+    ));
     after.assert_accepted(3, 2);
     assert_eq!(after.log(0), (true, None, Some(Side::Abort)));
     assert_eq!(after.codes(0), [5, 5, 0]);
@@ -135,7 +112,7 @@ fn m4_an_unwilling_site() {
 fn m5_crash_after_start() {
     let day = Day::new(&three(7, &[Start, Crash(0), Recover(0), Timeout(0)]));
     day.assert_accepted(4, 2);
-    assert!(day.site(0).coordinator);
+    assert!(day.site(0).is_coordinator());
     assert_eq!(day.codes(0), [1, 0, 0]);
     assert_eq!(day.row(1).kind, Kind::Prepare);
     assert_eq!(day.row(1), day.row(0));
@@ -143,7 +120,10 @@ fn m5_crash_after_start() {
 
 #[test]
 fn m6_a_repeated_prepare() {
-    let day = Day::new(&three(7, &[Start, deliver(0, 1), deliver(0, 1)]));
+    let day = Day::new(&three(
+        7,
+        &[Start, Command::deliver(0, 1), Command::deliver(0, 1)],
+    ));
     day.assert_accepted(3, 3);
     assert_eq!(day.log(1), (true, None, None));
     assert_eq!(day.row(1).kind, Kind::Vote);
@@ -155,7 +135,7 @@ fn m7_timeout_at_once() {
     let day = Day::new(&three(7, &[Timeout(2)]));
     day.assert_accepted(1, 0);
     assert_eq!(day.log(2), (false, None, Some(Side::Abort)));
-    assert!(!day.site(2).coordinator);
+    assert!(!day.site(2).is_coordinator());
     assert_eq!(day.codes(2), [0, 0, 5]);
 }
 
@@ -166,7 +146,7 @@ fn m8_start_twice() {
 
 #[test]
 fn m9_a_row_to_its_sender() {
-    Day::new(&three(7, &[Start, deliver(0, 0)])).assert_stopped(11, 6, 1);
+    Day::new(&three(7, &[Start, Command::deliver(0, 0)])).assert_stopped(11, 6, 1);
 }
 
 #[test]
@@ -187,20 +167,19 @@ fn quorums_of_four_sites() {
     Day::new(&header(4, 2, 2, 0)).assert_stopped(4, 0, 0);
     let day = Day::new(&header(4, 2, 3, 0));
     day.assert_accepted(0, 0);
-    assert_eq!((day.played.world.commit, day.played.world.abort), (2, 3));
+    assert_eq!(day.played.world.sizes, Sizes::new(4, 2, 3, 0));
 }
 
 #[test]
 fn a_cut_command() {
-    let mut list = three(7, &[Start, deliver(0, 1)]);
+    let mut list = three(7, &[Start, Command::deliver(0, 1)]);
     list.truncate(list.len() - 2);
     Day::new(&list).assert_stopped(7, 6, 1);
 }
 
 #[test]
 fn the_row_after_the_last() {
-    let mut commands = vec![Timeout(0); 1025];
-    commands[0] = Start;
+    let commands = rows_of_site_0(1025);
     let full = Day::new(&three(7, &commands[..1024]));
     full.assert_accepted(1024, 1024);
     let over = Day::new(&three(7, &commands));
@@ -211,8 +190,7 @@ fn the_row_after_the_last() {
 
 #[test]
 fn a_full_store_still_takes_what_adds_no_row() {
-    let mut commands = vec![Timeout(0); 1024];
-    commands[0] = Start;
+    let mut commands = rows_of_site_0(1024);
     commands.extend([Timeout(2), Crash(1), Recover(1), Crash(0), Recover(0)]);
     let day = Day::new(&three(7, &commands));
     day.assert_accepted(1029, 1024);
@@ -221,8 +199,9 @@ fn a_full_store_still_takes_what_adds_no_row() {
 
 #[test]
 fn a_quiet_day_commits_everywhere() {
-    for n in 3..=16u8 {
-        let day = Day::new(&quiet_day(n, n - 1, n - 1));
+    let sizes = (3..=16u8).flat_map(|n| [(n, 2), (n, n - 1)]);
+    for (n, abort) in sizes {
+        let day = Day::new(&quiet_day(n, n - 1, abort));
         let n = usize::from(n);
         day.assert_accepted(3 + 6 * (n - 1), 3 * n);
         for site in 0..n {
@@ -237,33 +216,34 @@ fn a_quiet_day_commits_everywhere() {
 
 #[test]
 fn an_unwilling_site_0_sends_the_outcome() {
-    let day = Day::new(&three(6, &[Start, deliver(0, 1), deliver(1, 0)]));
+    let day = Day::new(&three(
+        6,
+        &[Start, Command::deliver(0, 1), Command::deliver(1, 0)],
+    ));
     day.assert_accepted(3, 2);
     assert_eq!(day.row(0).kind, Kind::Outcome);
     assert_eq!(day.row(1).kind, Kind::Ack);
     assert_eq!(day.log(0), (false, None, Some(Side::Abort)));
     assert_eq!(day.log(1), (false, None, Some(Side::Abort)));
-    assert!(day.site(0).coordinator);
+    assert!(day.site(0).is_coordinator());
     assert_eq!(day.codes(0), [5, 5, 0]);
 }
 
 #[test]
 fn a_repeated_in_group_makes_no_quorum() {
-    let mut list = header(4, 3, 3, 15);
     let commands = [
         Start,
         Timeout(0),
-        deliver(1, 1),
-        deliver(2, 0),
-        deliver(2, 0),
+        Command::deliver(1, 1),
+        Command::deliver(2, 0),
+        Command::deliver(2, 0),
         Timeout(0),
     ];
-    list.extend(commands.iter().flat_map(|command| command.bytes()));
-    let day = Day::new(&list);
+    let day = Day::new(&list_of(Sizes::new(4, 3, 3, 15), &commands));
     day.assert_accepted(6, 4);
     assert_eq!(day.codes(0), [3, 3, 0, 0]);
     assert_eq!(day.row(3).kind, Kind::Join(Side::Abort));
-    assert_eq!(day.site(0).state(), State::Joined(Side::Abort));
+    assert_eq!(day.site(0).state(), State::InGroup(Side::Abort));
 }
 
 #[test]
@@ -272,14 +252,14 @@ fn an_abort_group_member_stays_when_a_join_commit_arrives() {
         7,
         &[
             Start,
-            deliver(0, 1),
-            deliver(0, 2),
-            deliver(1, 0),
-            deliver(2, 0),
+            Command::deliver(0, 1),
+            Command::deliver(0, 2),
+            Command::deliver(1, 0),
+            Command::deliver(2, 0),
             Timeout(0),
             Timeout(1),
             Timeout(1),
-            deliver(3, 1),
+            Command::deliver(3, 1),
         ],
     ));
     day.assert_accepted(9, 7);
@@ -296,5 +276,5 @@ fn a_crash_leaves_the_group_records_vector() {
     let after = Day::new(&two_against(&[Crash(0)]));
     after.assert_accepted(7, 4);
     assert_eq!(after.codes(0), [3, 1, 0]);
-    assert!(!after.site(0).up && !after.site(0).coordinator);
+    assert!(!after.site(0).up && !after.site(0).is_coordinator());
 }

@@ -1,23 +1,18 @@
 //! The vectors: lists, and what the player must print for each.
 
-use std::env;
 use std::fs;
 use std::io::Write;
-use std::path::{Path, PathBuf};
+use std::path::Path;
 use std::process::{Command, Stdio};
 
+/// The repository's vectors, and how many there are at the least.
+const FOLDER: &str = concat!(env!("CARGO_MANIFEST_DIR"), "/../tests/vectors");
 const LEAST: usize = 60;
-
-/// The folder named by VECTORS, seen from the repository's root.
-fn folder() -> PathBuf {
-    let named = env::var_os("VECTORS").unwrap_or("../shared/vectors/base".into());
-    Path::new(env!("CARGO_MANIFEST_DIR")).join("..").join(named)
-}
 
 /// Every list of the folder, with its name and what is to be printed.
 fn vectors() -> Vec<(String, Vec<u8>, Vec<u8>)> {
-    let folder = folder();
-    let entries = fs::read_dir(&folder).unwrap_or_else(|why| panic!("{}: {why}", folder.display()));
+    let folder = Path::new(FOLDER);
+    let entries = fs::read_dir(folder).unwrap_or_else(|why| panic!("{}: {why}", folder.display()));
     let mut all: Vec<_> = entries
         .map(|entry| entry.unwrap().path())
         .filter(|path| path.extension().is_some_and(|ending| ending == "bin"))

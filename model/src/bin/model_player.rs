@@ -2,7 +2,7 @@
 
 use std::io::{self, Read, Write};
 
-use model::world::MAX_LIST;
+use model::sizes::MAX_LIST;
 
 fn main() -> io::Result<()> {
     let list = read_list()?;

@@ -1,28 +1,39 @@
 //! One-command calls, on worlds that a list may never reach.
 
 use super::guide::Guide;
-use super::{sizes, willing, Rng};
-use crate::command::Command;
+use super::{sizes, Rng};
+use crate::command::{Ask, Command};
+use crate::layout::{encode, CODES, GROUP_CODES, HEAD_BYTES, SITE_BYTES, WORLD_BYTES};
 use crate::row::{ROW_BYTES, STORE_BYTES};
-use crate::world::{everyone, Side, Site, World, MAX_ROWS, MAX_SITES};
+use crate::site::{GroupRecord, Log, Role, Side, Site, State};
+use crate::sizes::{everyone, MAX_SITES};
+use crate::vector::Vector;
+use crate::world::{World, MAX_ROWS};
 
-/// All that a one-command call is given.
+/// All that a one-command call is given, the world as bytes.
 #[derive(Clone, Debug)]
 pub struct Call {
-    pub world: World,
+    pub world: [u8; WORLD_BYTES],
     pub store: Vec<u8>,
     pub list: Vec<u8>,
     pub at: usize,
 }
 
+impl Call {
+    pub fn ask(&self) -> Ask<'_> {
+        Ask::new(&self.list, self.at)
+    }
+}
+
 /// A call on a reached or a thinkable world, with some damage at times.
 pub fn any(rng: &mut Rng) -> Call {
-    let (mut world, mut store) = if rng.chance(40) {
+    let (world, mut store) = if rng.chance(40) {
         reached(rng)
     } else {
         thinkable(rng)
     };
     let (list, at) = command_bytes(rng, &world);
+    let mut world = encode(&world);
     if rng.chance(12) {
         damage_world(rng, &mut world);
     }
@@ -42,47 +53,43 @@ pub fn any(rng: &mut Rng) -> Call {
 
 /// A world and store that some list leads to.
 fn reached(rng: &mut Rng) -> (World, Vec<u8>) {
-    let (n, c, a) = sizes(rng);
-    let willing = willing(rng, n);
-    let limit = rng.between(5, 600);
-    let mut guide = Guide::new(n, c, a, willing, limit);
+    let sizes = sizes(rng);
+    let mut guide = Guide::new(sizes, rng.between(5, 600));
     guide.wander(rng);
     (guide.world, guide.store)
 }
 
 /// A world that passes the check, whatever its logs and vectors say.
 fn thinkable(rng: &mut Rng) -> (World, Vec<u8>) {
-    let (n, c, a) = sizes(rng);
-    let mut world = World::fresh(n, c, a, willing(rng, n));
-    world.rows = rng.choose(&[0, 1, 5, 40, MAX_ROWS - 1, MAX_ROWS]);
+    let mut world = World::fresh(sizes(rng));
+    let n = world.sizes.n;
+    world.row_count = rng.choose(&[0, 1, 5, 40, MAX_ROWS - 1, MAX_ROWS]);
     for me in 0..n {
         world.sites[me] = thinkable_site(rng, me, n);
     }
     let size = STORE_BYTES + rng.choose(&[0, 0, 1, 100]);
     let mut store = rng.bytes(size);
-    for row in 0..world.rows {
-        let bytes = thinkable_row(rng, n);
-        store[row * ROW_BYTES..][..ROW_BYTES].copy_from_slice(&bytes);
+    for row in store.chunks_exact_mut(ROW_BYTES).take(world.row_count) {
+        row.copy_from_slice(&thinkable_row(rng, n));
     }
     (world, store)
 }
 
 fn thinkable_site(rng: &mut Rng, me: usize, n: usize) -> Site {
-    let mut site = Site {
-        up: rng.chance(80),
-        coordinator: rng.chance(50),
-        prepared: rng.chance(60),
-        group: maybe_side(rng, 45),
+    let log = Log {
+        prepare: rng.chance(60),
+        group: maybe_side(rng, 45).map(|side| GroupRecord {
+            side,
+            vector: thinkable_vector(rng, n, me, State::InGroup(side)),
+        }),
         outcome: maybe_side(rng, 20),
-        codes: thinkable_codes(rng, n),
-        joined: [0; MAX_SITES],
     };
-    if let Some(side) = site.group {
-        site.joined = thinkable_codes(rng, n);
-        site.joined[me] = crate::world::group_code(side);
+    Site {
+        up: rng.chance(80),
+        role: rng.choose(&[Role::Subordinate, Role::Coordinator]),
+        log,
+        vector: thinkable_vector(rng, n, me, log.state()),
     }
-    site.codes[me] = site.state().code();
-    site
 }
 
 fn maybe_side(rng: &mut Rng, percent: usize) -> Option<Side> {
@@ -90,16 +97,21 @@ fn maybe_side(rng: &mut Rng, percent: usize) -> Option<Side> {
     rng.chance(percent).then_some(side)
 }
 
+/// Any vector of a site in that state.
+fn thinkable_vector(rng: &mut Rng, n: usize, me: usize, state: State) -> Vector {
+    let mut vector = Vector::read(&thinkable_codes(rng, n)).expect("codes up to 5");
+    vector.set(me, state);
+    vector
+}
+
 /// Codes up to a height, so that outcomes are not always there; at times all
 /// of one sort.
-fn thinkable_codes(rng: &mut Rng, n: usize) -> [u8; MAX_SITES] {
+fn thinkable_codes(rng: &mut Rng, n: usize) -> Vec<u8> {
     let height = rng.choose(&[1, 2, 3, 3, 5]);
     let same = rng.chance(25).then(|| rng.below(height + 1) as u8);
-    let mut codes = [0; MAX_SITES];
-    for code in &mut codes[..n] {
-        *code = same.unwrap_or_else(|| rng.below(height + 1) as u8);
-    }
-    codes
+    (0..n)
+        .map(|_| same.unwrap_or_else(|| rng.below(height + 1) as u8))
+        .collect()
 }
 
 /// A row that passes, with anything in its codes from n up.
@@ -113,7 +125,7 @@ fn thinkable_row(rng: &mut Rng, n: usize) -> [u8; ROW_BYTES] {
         rng.draw() as u16
     };
     row[2..4].copy_from_slice(&to.to_le_bytes());
-    row[4..].copy_from_slice(&thinkable_codes(rng, n));
+    row[4..4 + n].copy_from_slice(&thinkable_codes(rng, n));
     for code in &mut row[4 + n..] {
         *code = rng.choose(&[0, 0, 3, 200]);
     }
@@ -139,13 +151,10 @@ fn command_bytes(rng: &mut Rng, world: &World) -> (Vec<u8>, usize) {
 }
 
 fn any_command(rng: &mut Rng, world: &World) -> Command {
-    let site = below_or_at(rng, world.n);
+    let site = below_or_at(rng, world.sizes.n);
     match rng.below(10) {
         0 => Command::Start,
-        1..=5 => Command::Deliver {
-            row: below_or_at(rng, world.rows),
-            site,
-        },
+        1..=5 => Command::deliver(below_or_at(rng, world.row_count), site),
         6..=7 => Command::Timeout(site),
         8 => Command::Crash(site),
         _ => Command::Recover(site),
@@ -161,23 +170,16 @@ fn below_or_at(rng: &mut Rng, bound: usize) -> usize {
     }
 }
 
-/// One thing wrong, at a site that takes part or at one that does not.
-fn damage_world(rng: &mut Rng, world: &mut World) {
-    let site = &mut world.sites[rng.below(MAX_SITES)];
-    let entry = rng.below(MAX_SITES);
-    let code = rng.choose(&[0, 1, 2, 3, 4, 5, 6, 255]);
-    match rng.below(13) {
-        0 => world.n = rng.choose(&[0, 2, 3, 16, 17, usize::MAX]),
-        1 => world.commit = rng.choose(&[0, 1, 2, 15, 16, usize::MAX]),
-        2 => world.abort = rng.choose(&[0, 1, 2, 15, 16, usize::MAX]),
-        3 => world.willing ^= 1 << entry,
-        4 => world.rows = rng.choose(&[0, MAX_ROWS, MAX_ROWS + 1, usize::MAX]),
-        5 => site.prepared ^= true,
-        6 => site.group = maybe_side(rng, 60),
-        7 => site.outcome = maybe_side(rng, 60),
-        8..=9 => site.joined[entry] = code,
-        _ => site.codes[entry] = code,
-    }
+/// One byte changed: in the head, or at a site that takes part or does not.
+fn damage_world(rng: &mut Rng, world: &mut [u8; WORLD_BYTES]) {
+    let site = HEAD_BYTES + SITE_BYTES * rng.below(MAX_SITES);
+    let place = match rng.below(10) {
+        0..=2 => rng.below(HEAD_BYTES),
+        3..=4 => site + rng.below(CODES.start),
+        5..=6 => site + GROUP_CODES.start + rng.below(MAX_SITES),
+        _ => site + CODES.start + rng.below(MAX_SITES),
+    };
+    world[place] = rng.choose(&[0, 1, 2, 3, 4, 5, 6, 15, 16, 17, 255]);
 }
 
 /// Some bytes changed anywhere, most of them in the first rows.

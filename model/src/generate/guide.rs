@@ -1,10 +1,12 @@
 //! A list that grows along a world, so that its commands are accepted.
 
-use super::{header, Rng};
-use crate::command::Command;
+use super::Rng;
+use crate::command::{Ask, Command};
 use crate::play::play_command;
 use crate::row::{Row, STORE_BYTES};
-use crate::world::{group_code, Side, State, World, MAX_ROWS};
+use crate::site::{Side, Site, State};
+use crate::sizes::Sizes;
+use crate::world::{World, MAX_ROWS};
 
 /// A row and a site it goes to.
 type Parcel = (usize, usize);
@@ -87,10 +89,10 @@ pub struct Guide {
 }
 
 impl Guide {
-    pub fn new(n: usize, c: usize, a: usize, willing: u16, limit: usize) -> Guide {
+    pub fn new(sizes: Sizes, limit: usize) -> Guide {
         Guide {
-            list: header(n, c, a, willing),
-            world: World::fresh(n, c, a, willing),
+            list: sizes.header().to_vec(),
+            world: World::fresh(sizes),
             store: vec![0; STORE_BYTES],
             limit,
             hold: 0,
@@ -104,29 +106,41 @@ impl Guide {
         self.limit.saturating_sub(self.list.len())
     }
 
-    /// What a command would be answered with now.
-    pub fn answer(&mut self, bytes: &[u8]) -> Result<usize, u8> {
-        let mut world = self.world;
-        play_command(&mut world, &mut self.store, bytes, 0)
+    /// How many sites there are.
+    pub fn n(&self) -> usize {
+        self.world.sizes.n
+    }
+
+    /// The number that a command would be refused with now, or the world after it.
+    pub fn try_out(&mut self, list: &[u8]) -> Result<World, u8> {
+        let mut next = self.world;
+        play_command(&mut next, &mut self.store, Ask::new(list, 0))?;
+        Ok(next)
     }
 
     /// Adds a command if it is accepted and fits.
     pub fn play(&mut self, command: Command) -> bool {
         let bytes = command.bytes();
-        let mut next = self.world;
-        if bytes.len() > self.room()
-            || play_command(&mut next, &mut self.store, &bytes, 0).is_err()
-            || !self.may_become(&next)
-        {
+        if bytes.len() > self.room() {
             return false;
         }
-        if next.rows > self.world.rows {
-            self.waiting.push(self.row(self.world.rows).to);
+        match self.try_out(&bytes) {
+            Ok(next) if self.may_become(&next) => {
+                self.go_on(command, next);
+                true
+            }
+            _ => false,
+        }
+    }
+
+    /// Takes over a command and the world it leads to.
+    fn go_on(&mut self, command: Command, next: World) {
+        if next.row_count > self.world.row_count {
+            self.waiting.push(self.row(self.world.row_count).to);
         }
         self.world = next;
-        self.list.extend(bytes);
+        self.list.extend(command.bytes());
         self.note_arrived(command);
-        true
     }
 
     /// Keeps account of what was delivered.
@@ -142,12 +156,12 @@ impl Guide {
 
     /// Is the next world one that is wanted?
     fn may_become(&self, next: &World) -> bool {
-        next.rows >= self.hold || is_undecided(next)
+        next.row_count >= self.hold || is_undecided(next)
     }
 
     /// A row that was sent.
     pub fn row(&self, at: usize) -> Row {
-        Row::read(&self.store, at, self.world.n).expect("played rows are good")
+        Row::read(&self.store, at, self.n()).expect("played rows are good")
     }
 
     /// Commands until the list is long enough.
@@ -187,7 +201,7 @@ impl Guide {
 
     /// Some more commands.
     fn wander_on(&mut self, rng: &mut Rng, weather: Weather, floods: bool) {
-        let full = self.world.rows == MAX_ROWS;
+        let full = self.world.row_count == MAX_ROWS;
         match rng.below(4) {
             0 => self.scatter(rng, floods),
             _ if full => self.idle_move(rng),
@@ -198,8 +212,8 @@ impl Guide {
 
     /// A round by a coordinator if there is one.
     fn lead_on(&mut self, rng: &mut Rng, weather: Weather) {
-        let leader = self.up_sites(|world, site| world.sites[site].coordinator);
-        match rng.pick(leader.into_iter()) {
+        let leader = self.sites(|site| site.up && site.is_coordinator());
+        match rng.pick(leader) {
             Some(leader) => self.round(rng, Command::Timeout(leader), weather),
             None => self.lead_anyone(rng, weather),
         }
@@ -208,33 +222,33 @@ impl Guide {
     /// A round by any site, seldom one that is active.
     fn lead_anyone(&mut self, rng: &mut Rng, weather: Weather) {
         let hasty = rng.chance(8);
-        let leader = self.up_sites(|world, site| hasty || !is_active(world, site));
-        match rng.pick(leader.into_iter()) {
+        let leader = self.sites(|site| site.up && (hasty || site.state() != State::Active));
+        match rng.pick(leader) {
             Some(leader) => self.round(rng, Command::Timeout(leader), weather),
             None => self.scatter(rng, false),
         }
     }
 
-    /// The sites that are up and as wished.
-    pub fn up_sites(&self, wished: impl Fn(&World, usize) -> bool) -> Vec<usize> {
-        let sites = 0..self.world.n;
-        let fits = |&site: &usize| self.world.sites[site].up && wished(&self.world, site);
+    /// The sites that are as wished.
+    pub fn sites(&self, wished: impl Fn(&Site) -> bool) -> Vec<usize> {
+        let sites = 0..self.n();
+        let fits = |&site: &usize| wished(&self.world.sites[site]);
         sites.filter(fits).collect()
     }
 
     /// A command is sent, arrives at some sites, and some replies come back.
     fn round(&mut self, rng: &mut Rng, opening: Command, weather: Weather) {
-        let row = self.world.rows;
-        if !self.play(opening) || self.world.rows == row {
+        let row = self.world.row_count;
+        if !self.play(opening) || self.world.row_count == row {
             return;
         }
-        let mut sites: Vec<usize> = self.row(row).destinations(self.world.n).collect();
+        let mut sites: Vec<usize> = self.row(row).destinations(self.n()).collect();
         rng.shuffle(&mut sites);
-        let first_reply = self.world.rows;
+        let first_reply = self.world.row_count;
         for site in sites {
             self.carry(rng, (row, site), weather.commands, weather);
         }
-        for reply in first_reply..self.world.rows {
+        for reply in first_reply..self.world.row_count {
             self.carry(rng, (reply, opening.site()), weather.replies, weather);
         }
     }
@@ -248,17 +262,17 @@ impl Guide {
             self.hand_over(parcel);
         }
         if rng.chance(weather.crashes) {
-            let site = rng.below(self.world.n);
+            let site = rng.below(self.n());
             self.play(Command::Crash(site));
         }
         if rng.chance(weather.crashes) {
-            let site = rng.below(self.world.n);
+            let site = rng.below(self.n());
             self.play(Command::Recover(site));
         }
     }
 
     fn hand_over(&mut self, (row, site): Parcel) -> bool {
-        self.play(Command::Deliver { row, site })
+        self.play(Command::deliver(row, site))
     }
 
     /// Some moves without a plan.
@@ -285,7 +299,7 @@ impl Guide {
         } else if drawn(mood.timeout) {
             self.time_out(rng)
         } else if drawn(mood.crash) {
-            self.play(Command::Crash(rng.below(self.world.n)))
+            self.play(Command::Crash(rng.below(self.n())))
         } else {
             self.recover_one(rng)
         }
@@ -297,7 +311,7 @@ impl Guide {
             return false;
         };
         let left = self.waiting[row];
-        match rng.pick((0..self.world.n).filter(|site| left >> site & 1 == 1)) {
+        match rng.pick((0..self.n()).filter(|site| left >> site & 1 == 1)) {
             Some(site) => self.hand_over((row, site)),
             None => false,
         }
@@ -305,8 +319,8 @@ impl Guide {
 
     /// A row that was sent, of late more often.
     fn recent_row(&self, rng: &mut Rng) -> Option<usize> {
-        let reach = self.world.rows.min(rng.choose(&[8, 40, MAX_ROWS]));
-        self.world.rows.checked_sub(1 + rng.below(reach))
+        let reach = self.world.row_count.min(rng.choose(&[8, 40, MAX_ROWS]));
+        self.world.row_count.checked_sub(1 + rng.below(reach))
     }
 
     /// Something that has arrived before.
@@ -320,16 +334,15 @@ impl Guide {
 
     fn time_out(&mut self, rng: &mut Rng) -> bool {
         let hasty = rng.chance(3);
-        let sites = self.up_sites(|world, site| hasty || !is_active(world, site));
-        match rng.pick(sites.into_iter()) {
+        let sites = self.sites(|site| site.up && (hasty || site.state() != State::Active));
+        match rng.pick(sites) {
             Some(site) => self.play(Command::Timeout(site)),
             None => false,
         }
     }
 
     fn recover_one(&mut self, rng: &mut Rng) -> bool {
-        let down = (0..self.world.n).filter(|&site| !self.world.sites[site].up);
-        match rng.pick(down) {
+        match rng.pick(self.sites(|site| !site.up)) {
             Some(site) => self.play(Command::Recover(site)),
             None => false,
         }
@@ -337,13 +350,28 @@ impl Guide {
 
     /// A duel until the store is full, and small things after that.
     pub fn quarrel(&mut self, rng: &mut Rng) {
-        self.open_quarrel(rng);
-        self.hold = MAX_ROWS + 1;
-        while self.room() >= 2 && self.world.rows < MAX_ROWS {
-            self.quarrel_move(rng);
-        }
+        self.quarrel_for(rng, MAX_ROWS);
         while self.room() >= 2 {
             self.idle_move(rng);
+        }
+    }
+
+    /// A quarrel of some rows, after which it may be settled.
+    pub fn begin_with_quarrel(&mut self, rng: &mut Rng) {
+        let rows = rng.between(10, MAX_ROWS);
+        self.quarrel_for(rng, rows);
+        self.hold = 0;
+    }
+
+    /// A duel until so many rows are sent; there is none if not all are willing.
+    fn quarrel_for(&mut self, rng: &mut Rng, rows: usize) {
+        self.open_quarrel(rng);
+        if !is_undecided(&self.world) {
+            return;
+        }
+        self.hold = MAX_ROWS + 1;
+        while self.room() >= 2 && self.world.row_count < rows {
+            self.quarrel_move(rng);
         }
     }
 
@@ -367,13 +395,10 @@ impl Guide {
     }
 
     fn quarrel_command(&mut self, rng: &mut Rng) -> Command {
-        let site = rng.below(self.world.n);
+        let site = rng.below(self.n());
         match (rng.below(100), self.recent_row(rng)) {
             (0..=39, _) => Command::Timeout(site),
-            (40..=79, Some(row)) => Command::Deliver {
-                row,
-                site: self.site_of(rng, row),
-            },
+            (40..=79, Some(row)) => Command::deliver(row, self.site_of(rng, row)),
             (80..=86, _) => Command::Crash(site),
             _ => Command::Recover(site),
         }
@@ -381,13 +406,13 @@ impl Guide {
 
     /// One of a row's sites.
     fn site_of(&self, rng: &mut Rng, row: usize) -> usize {
-        let found = rng.pick(self.row(row).destinations(self.world.n));
+        let found = rng.pick(self.row(row).destinations(self.n()));
         found.expect("a row goes somewhere")
     }
 
     /// A command that adds no row and is accepted with a full store.
     fn idle_move(&mut self, rng: &mut Rng) {
-        let site = rng.below(self.world.n);
+        let site = rng.below(self.n());
         let played = match rng.below(100) {
             0..=79 => self.deliver_reply(rng),
             80..=86 => self.play(Command::Crash(site)),
@@ -400,7 +425,7 @@ impl Guide {
 
     /// Some reply to the site it was sent to.
     fn deliver_reply(&mut self, rng: &mut Rng) -> bool {
-        let row = rng.below(self.world.rows);
+        let row = rng.below(self.world.row_count);
         if self.row(row).kind.reply().is_some() {
             return false;
         }
@@ -419,30 +444,26 @@ impl Guide {
 
     /// The rows that are commands, each with those of its sites that are as
     /// wished.
-    pub fn commands_for(&self, wished: impl Fn(&World, usize) -> bool) -> Vec<Parcel> {
-        let n = self.world.n;
-        (0..self.world.rows)
+    pub fn commands_for(&self, wished: impl Fn(&Site) -> bool) -> Vec<Parcel> {
+        let n = self.n();
+        (0..self.world.row_count)
             .map(|at| (at, self.row(at)))
             .filter(|(_, row)| row.kind.reply().is_some())
             .flat_map(|(at, row)| row.destinations(n).map(move |site| (at, site)))
-            .filter(|&(_, site)| wished(&self.world, site))
+            .filter(|&(_, site)| wished(&self.world.sites[site]))
             .collect()
     }
 }
 
-fn is_active(world: &World, site: usize) -> bool {
-    world.sites[site].state() == State::Active
-}
-
 /// No outcome is written and no site knows of a quorum.
 fn is_undecided(world: &World) -> bool {
-    let known = |codes: &[u8], side| {
-        let code = group_code(side);
-        codes.iter().filter(|&&held| held == code).count()
+    let falls_short = |site: &Site, side| {
+        let known = site.vector.count(State::InGroup(side));
+        known < world.sizes.quorum(side)
     };
     world.members().iter().all(|site| {
-        site.outcome.is_none()
-            && known(&site.codes, Side::Commit) < world.commit
-            && known(&site.codes, Side::Abort) < world.abort
+        site.log.outcome.is_none()
+            && falls_short(site, Side::Commit)
+            && falls_short(site, Side::Abort)
     })
 }

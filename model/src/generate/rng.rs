@@ -40,9 +40,9 @@ impl Rng {
         from[self.below(from.len())]
     }
 
-    /// One of those an iterator gives, if any.
-    pub fn pick<T>(&mut self, from: impl Iterator<Item = T>) -> Option<T> {
-        let mut all: Vec<T> = from.collect();
+    /// One of many, if there are any.
+    pub fn pick<T>(&mut self, from: impl IntoIterator<Item = T>) -> Option<T> {
+        let mut all: Vec<T> = from.into_iter().collect();
         if all.is_empty() {
             return None;
         }

@@ -4,7 +4,9 @@ use super::guide::Guide;
 use super::Rng;
 use crate::command::Command;
 use crate::number;
-use crate::world::{State, MAX_SITES};
+use crate::site::{Site, State};
+use crate::sizes::{MAX_LIST, MAX_SITES};
+use crate::world::MAX_ROWS;
 
 /// The numbers a played command can be refused with.
 const NUMBERS: [u8; 9] = [
@@ -43,7 +45,7 @@ fn add_refusal(guide: &mut Guide, rng: &mut Rng, number: u8) -> bool {
     let Some(mut bytes) = refused_bytes(guide, rng, number) else {
         return false;
     };
-    if guide.answer(&bytes) != Err(number) {
+    if guide.try_out(&bytes) != Err(number) {
         return false;
     }
     if number != number::CUT && rng.chance(30) {
@@ -51,7 +53,7 @@ fn add_refusal(guide: &mut Guide, rng: &mut Rng, number: u8) -> bool {
         bytes.extend(rng.bytes(size));
     }
     // The list may outgrow what was wished, but not what a list can be.
-    let fits = guide.list.len() + bytes.len() <= crate::world::MAX_LIST;
+    let fits = guide.list.len() + bytes.len() <= MAX_LIST;
     if fits {
         guide.list.extend(bytes);
     }
@@ -68,7 +70,7 @@ fn refused_bytes(guide: &Guide, rng: &mut Rng, number: u8) -> Option<Vec<u8>> {
         number::NOT_SENT => wrong_address(guide, rng).map(Command::bytes),
         number::DOWN => at_down_site(guide, rng).map(Command::bytes),
         number::UP => rng
-            .pick(guide.up_sites(|_, _| true).into_iter())
+            .pick(guide.sites(|site| site.up))
             .map(|site| Command::Recover(site).bytes()),
         number::STARTED => Some(Command::Start.bytes()),
         _ => one_row_more(guide, rng).map(Command::bytes),
@@ -80,17 +82,17 @@ fn cut_command(rng: &mut Rng) -> Vec<u8> {
         0 => Command::Timeout(0).bytes(),
         1 => Command::Crash(1).bytes(),
         2 => Command::Recover(2).bytes(),
-        _ => Command::Deliver { row: 0, site: 1 }.bytes(),
+        _ => Command::deliver(0, 1).bytes(),
     };
     bytes.truncate(rng.between(1, bytes.len() - 1));
     bytes
 }
 
 fn bad_site(guide: &Guide, rng: &mut Rng) -> Command {
-    let site = rng.choose(&[guide.world.n, MAX_SITES, 255]);
-    let row = rng.below(guide.world.rows + 1);
+    let site = rng.choose(&[guide.n(), MAX_SITES, 255]);
+    let row = rng.below(guide.world.row_count + 1);
     rng.choose(&[
-        Command::Deliver { row, site },
+        Command::deliver(row, site),
         Command::Timeout(site),
         Command::Crash(site),
         Command::Recover(site),
@@ -98,41 +100,40 @@ fn bad_site(guide: &Guide, rng: &mut Rng) -> Command {
 }
 
 fn bad_row(guide: &Guide, rng: &mut Rng) -> Command {
-    let rows = guide.world.rows;
-    Command::Deliver {
-        row: rng.choose(&[rows, rows + 1, 1024, 65_535]),
-        site: rng.below(guide.world.n),
-    }
+    let rows = guide.world.row_count;
+    let row = rng.choose(&[rows, rows + 1, MAX_ROWS, 65_535]);
+    Command::deliver(row, rng.below(guide.n()))
 }
 
 fn wrong_address(guide: &Guide, rng: &mut Rng) -> Option<Command> {
-    let row = rng.pick(0..guide.world.rows)?;
+    let row = rng.pick(0..guide.world.row_count)?;
     let known = guide.row(row);
-    let others = (0..guide.world.n).filter(|&site| !known.goes_to(site));
+    let others = (0..guide.n()).filter(|&site| !known.goes_to(site));
     let site = rng.pick(others)?;
-    Some(Command::Deliver { row, site })
+    Some(Command::deliver(row, site))
 }
 
 fn at_down_site(guide: &Guide, rng: &mut Rng) -> Option<Command> {
-    let down = |site: usize| !guide.world.sites[site].up;
-    let site = rng.pick((0..guide.world.n).filter(|&site| down(site)))?;
-    let parcels = guide.commands_for(|world, site| !world.sites[site].up);
+    let site = rng.pick(guide.sites(|site| !site.up))?;
     match rng.below(4) {
-        0 if down(0) => Some(Command::Start),
+        0 if !guide.world.sites[0].up => Some(Command::Start),
         1 => Some(Command::Timeout(site)),
         2 => Some(Command::Crash(site)),
-        _ => rng
-            .pick(parcels.into_iter())
-            .map(|(row, site)| Command::Deliver { row, site }),
+        _ => delivery(guide, rng, |site| !site.up),
     }
 }
 
 fn one_row_more(guide: &Guide, rng: &mut Rng) -> Option<Command> {
     if rng.chance(30) {
-        let parcels = guide.commands_for(|world, site| world.sites[site].up);
-        let (row, site) = rng.pick(parcels.into_iter())?;
-        return Some(Command::Deliver { row, site });
+        return delivery(guide, rng, |site| site.up);
     }
-    let able = guide.up_sites(|world, site| world.sites[site].state() != State::Active);
-    rng.pick(able.into_iter()).map(Command::Timeout)
+    let able = guide.sites(|site| site.up && site.state() != State::Active);
+    rng.pick(able).map(Command::Timeout)
+}
+
+/// A command's row to a site that is as wished.
+fn delivery(guide: &Guide, rng: &mut Rng, wished: impl Fn(&Site) -> bool) -> Option<Command> {
+    let parcels = guide.commands_for(wished);
+    let (row, site) = rng.pick(parcels)?;
+    Some(Command::deliver(row, site))
 }

@@ -2,10 +2,12 @@
 
 use std::collections::BTreeMap;
 
-use model::calls::{Calls, Numbers, RESULT_BYTES};
+use model::calls::{Calls, RESULT_BYTES};
 use model::layout::{encode, WORLD_BYTES};
 use model::row::{ROW_BYTES, STORE_BYTES};
-use model::World;
+use model::sizes::HEADER_BYTES;
+use model::tally::{Day, Tally};
+use model::{number, Ask, Numbers, Sizes, World};
 
 /// The number that both sides gave, or what differs.
 pub type Agreed = Result<u32, String>;
@@ -30,6 +32,8 @@ const REPORTED: [&str; 2] = ["buffer", "result"];
 
 /// Longest list of which the shortest differing part is looked for.
 const SHORTENED: usize = 4_000;
+/// A list of which more bytes than this are played is one of the longer ones.
+const LONGER: usize = 1_500;
 
 pub struct Comparer<'a> {
     library: &'a dyn Calls,
@@ -38,11 +42,13 @@ pub struct Comparer<'a> {
     pub numbers: BTreeMap<u32, usize>,
     /// How often each directed clause was hit.
     pub clauses: BTreeMap<&'static str, usize>,
+    /// What the lists led to that were played on the usual buffers.
+    pub tally: Tally,
+    /// The same for the longer ones alone.
+    pub longer: Tally,
     pub lists: usize,
     pub calls: usize,
     pub reports: usize,
-    /// Accepted commands of all lists.
-    pub events: usize,
     salt: usize,
 }
 
@@ -53,17 +59,27 @@ impl<'a> Comparer<'a> {
             model,
             numbers: BTreeMap::new(),
             clauses: BTreeMap::new(),
+            tally: Tally::default(),
+            longer: Tally::default(),
             lists: 0,
             calls: 0,
             reports: 0,
-            events: 0,
             salt: 0,
         }
     }
 
     /// A list on buffers of the usual lengths.
     pub fn list(&mut self, list: &[u8]) -> Agreed {
-        self.list_with(list, USUAL)
+        let number = self.list_with(list, USUAL)?;
+        let day = Day::watch(list);
+        if number != u32::from(day.played.number) {
+            return Err(format!("list {} watched differs\n", hex(list)));
+        }
+        self.tally.add(list, &day);
+        if day.played.place > LONGER {
+            self.longer.add(list, &day);
+        }
+        Ok(number)
     }
 
     /// A list on buffers of any lengths, filled with a pattern before.
@@ -77,7 +93,7 @@ impl<'a> Comparer<'a> {
         Ok(self.count(number))
     }
 
-    fn try_list(&mut self, list: &[u8], lengths: Lengths) -> Agreed {
+    fn try_list(&self, list: &[u8], lengths: Lengths) -> Agreed {
         let start = [lengths.store, lengths.world, lengths.result].map(|size| self.pattern(size));
         let play = |side: &dyn Calls| {
             let mut after = start.clone();
@@ -85,25 +101,23 @@ impl<'a> Comparer<'a> {
             let number = side.play_list(list, store, world, result);
             (number, after)
         };
-        let answer = play(self.library);
-        same("list", PLAYED, &answer, &play(self.model))?;
-        let (number, [store, world, result]) = answer;
-        let [first_store, first_world, first_result] = &start;
-        if number == 16 || number == 17 {
-            let parts = [(&store, first_store), (&world, first_world)];
-            untouched(&parts, number)?;
-            return untouched(&[(&result, first_result)], number);
+        let (number, after) = same("list", PLAYED, play(self.library), play(self.model))?;
+        if [number::STORE, number::WORLD]
+            .map(u32::from)
+            .contains(&number)
+        {
+            return untouched(&after, &start, number);
         }
-        let rows = usize::from(u16::from_le_bytes([world[8], world[9]]));
-        if store[rows * ROW_BYTES..] != first_store[rows * ROW_BYTES..] {
-            return Err(format!("store changed beyond row {rows}\n"));
+        let [store, world, _] = &after;
+        let used = value(&world[8..10]) * ROW_BYTES;
+        if store[used..] != start[0][used..] {
+            return Err("store changed beyond the last row\n".into());
         }
-        self.events += u32::from_le_bytes([result[0], result[1], result[2], result[3]]) as usize;
         Ok(number)
     }
 
     /// The shortest first part of a list that differs already.
-    fn shortest<'b>(&mut self, list: &'b [u8], lengths: Lengths) -> &'b [u8] {
+    fn shortest<'b>(&self, list: &'b [u8], lengths: Lengths) -> &'b [u8] {
         let ends = 0..list.len().min(SHORTENED);
         ends.map(|end| &list[..end])
             .find(|part| self.try_list(part, lengths).is_err())
@@ -111,73 +125,52 @@ impl<'a> Comparer<'a> {
     }
 
     /// One command. A refusal must leave every buffer.
-    pub fn command(
-        &mut self,
-        world: &[u8],
-        store: &[u8],
-        list: &[u8],
-        at: usize,
-        result_size: usize,
-    ) -> Agreed {
+    pub fn command(&mut self, world: &[u8], store: &[u8], ask: Ask, result: usize) -> Agreed {
         self.calls += 1;
         self.salt += 1;
-        let result = self.pattern(result_size);
+        let start = [store.to_vec(), world.to_vec(), self.pattern(result)];
         let play = |side: &dyn Calls| {
-            let mut after = [store.to_vec(), world.to_vec(), result.clone()];
+            let mut after = start.clone();
             let [store, world, result] = &mut after;
-            let number = side.play_command(world, store, list, at, result);
+            let number = side.play_command(world, store, ask, result);
             (number, after)
         };
-        let answer = play(self.library);
-        let seen = same("command", PLAYED, &answer, &play(self.model)).and_then(|()| {
-            let (number, [after, next, place]) = &answer;
-            if *number == 0 {
-                return Ok(0);
-            }
-            if after != store || next != world {
-                return Err(format!("{number} touched store or world\n"));
-            }
-            untouched(&[(place, &result)], *number)
-        });
+        let seen = same("command", PLAYED, play(self.library), play(self.model)).and_then(
+            |(number, after)| match number {
+                0 => Ok(0),
+                _ => untouched(&after, &start, number),
+            },
+        );
         let number = seen.map_err(|why| {
-            let rows = &store[..store.len().min(40 * ROW_BYTES)];
-            format!(
-                "command in {} at {at}\n{why}world {}\nfirst rows {}\n",
-                hex(list),
-                hex(world),
-                hex(rows)
-            )
+            let (list, world) = (hex(ask.list), hex(world));
+            let rows = hex(&store[..store.len().min(40 * ROW_BYTES)]);
+            let at = ask.at;
+            format!("command in {list} at {at}\n{why}world {world}\nfirst rows {rows}\n")
         })?;
         Ok(self.count(number))
     }
 
-    /// A list again, command by command, world and store handed on; what each
-    /// side keeps is its own.
+    /// A list again, command by command, world and store handed on.
     pub fn walk(&mut self, list: &[u8]) -> Result<(), String> {
         let mut end = [self.pattern(STORE_BYTES), vec![0; WORLD_BYTES], vec![0; 8]];
+        let mut held = [end[0].clone(), fresh(list), vec![0; 8]];
         let [store, world, result] = &mut end;
-        let mut held = (fresh(list), store.clone());
         let number = self.library.play_list(list, store, world, result);
-        let mut place = 5;
-        let mut stop = 0;
+        let (mut place, mut stop) = (HEADER_BYTES, 0);
         while place < list.len() && stop == 0 {
-            let (mut next, mut rows, mut at) = (held.0.clone(), held.1.clone(), vec![0; 8]);
-            stop = self
-                .library
-                .play_command(&mut next, &mut rows, list, place, &mut at);
-            if stop != self.command(&held.0, &held.1, list, place, RESULT_BYTES)? {
+            let ask = Ask::new(list, place);
+            let agreed = self.command(&held[1], &held[0], ask, RESULT_BYTES)?;
+            let [store, world, result] = &mut held;
+            stop = self.library.play_command(world, store, ask, result);
+            if stop != agreed {
                 return Err("the same call twice, two numbers\n".into());
             }
             if stop == 0 {
-                place = at
-                    .iter()
-                    .rev()
-                    .fold(0, |sum, &byte| sum << 8 | usize::from(byte));
-                held = (next, rows);
+                place = value(result);
             }
         }
-        let ended = u32::from_le_bytes([result[4], result[5], result[6], result[7]]) as usize;
-        if (stop, place) != (number, ended) || held.0 != *world || held.1 != *store {
+        let ended = value(&end[2][4..]);
+        if (stop, place) != (number, ended) || held[..2] != end[..2] {
             return Err(format!("list {} walked differs from played\n", hex(list)));
         }
         Ok(())
@@ -200,28 +193,15 @@ impl<'a> Comparer<'a> {
             let number = side.report(world, numbers, buffer, result);
             (number, after)
         };
-        let answer = ask(self.library);
-        let seen = same("report", REPORTED, &answer, &ask(self.model)).and_then(|()| {
-            let (number, [buffer, result]) = &answer;
-            let [first_buffer, first_result] = &start;
-            if *number != 0 {
-                return untouched(&[(buffer, first_buffer), (result, first_result)], *number);
-            }
-            let size = result
-                .iter()
-                .rev()
-                .fold(0, |sum, &byte| sum << 8 | usize::from(byte));
-            if buffer[size..] != first_buffer[size..] {
-                return Err("buffer changed beyond the text\n".into());
-            }
-            Ok(0)
-        });
+        let seen = same("report", REPORTED, ask(self.library), ask(self.model)).and_then(
+            |(number, after)| match number {
+                0 => ends_with_text(&after, &start),
+                _ => untouched(&after, &start, number),
+            },
+        );
         let number = seen.map_err(|why| {
-            let text = String::from_utf8_lossy(&answer.1[0]);
-            format!(
-                "report {numbers:?} into {buffer_size}\n{why}world {}\nlibrary {text}\n",
-                hex(world)
-            )
+            let world = hex(world);
+            format!("report {numbers:?} into {buffer_size}\n{why}world {world}\n")
         })?;
         Ok(self.count(number))
     }
@@ -250,40 +230,60 @@ impl<'a> Comparer<'a> {
 
 /// The fresh world of a list's header, as bytes.
 fn fresh(list: &[u8]) -> Vec<u8> {
-    let [n, c, a] = [0, 1, 2].map(|at| usize::from(list[at]));
-    let willing = u16::from_le_bytes([list[3], list[4]]);
-    encode(&World::fresh(n, c, a, willing)).to_vec()
+    let header = list.first_chunk().expect("a list with a header");
+    encode(&World::fresh(Sizes::of_header(*header))).to_vec()
 }
 
-/// Number and buffers alike, or the first byte of each that is not.
+/// A number with its low byte first.
+fn value(bytes: &[u8]) -> usize {
+    let from_high = bytes.iter().rev();
+    from_high.fold(0, |sum, &byte| sum << 8 | usize::from(byte))
+}
+
+/// A number, and the buffers of a call.
+type Answer<const N: usize> = (u32, [Vec<u8>; N]);
+
+/// The answer that both sides gave, or the first byte of each buffer that
+/// differs.
 fn same<const N: usize>(
     call: &str,
     names: [&str; N],
-    library: &(u32, [Vec<u8>; N]),
-    model: &(u32, [Vec<u8>; N]),
-) -> Result<(), String> {
+    library: Answer<N>,
+    model: Answer<N>,
+) -> Result<Answer<N>, String> {
     let mut why = String::new();
     if library.0 != model.0 {
         why += &format!("number: library {}, model {}\n", library.0, model.0);
     }
     for (name, (left, right)) in names.iter().zip(library.1.iter().zip(&model.1)) {
-        if let Some(at) = (0..left.len()).find(|&at| left[at] != right[at]) {
+        if left != right {
+            let at = (0..left.len()).find(|&at| left[at] != right[at]);
+            let at = at.expect("buffers of one length");
             let (held, due) = (left[at], right[at]);
             why += &format!("{name} byte {at}: library {held}, model {due}\n");
         }
     }
-    match why.is_empty() {
-        true => Ok(()),
-        false => Err(format!("{call} differs\n{why}")),
+    if !why.is_empty() {
+        return Err(format!("{call} differs\n{why}"));
     }
+    Ok(library)
 }
 
 /// Buffers as they were.
-fn untouched(parts: &[(&Vec<u8>, &Vec<u8>)], number: u32) -> Agreed {
-    match parts.iter().all(|(after, before)| after == before) {
-        true => Ok(number),
-        false => Err(format!("{number} touched a buffer\n")),
+fn untouched(after: &[Vec<u8>], before: &[Vec<u8>], number: u32) -> Agreed {
+    if after != before {
+        return Err(format!("{number} touched a buffer\n"));
     }
+    Ok(number)
+}
+
+/// Nothing changed beyond the text of a report.
+fn ends_with_text([buffer, result]: &[Vec<u8>; 2], before: &[Vec<u8>; 2]) -> Agreed {
+    let size = value(result);
+    if buffer[size..] != before[0][size..] {
+        return Err("buffer changed beyond the text\n".into());
+    }
+    Ok(0)
 }
 
 fn hex(bytes: &[u8]) -> String {

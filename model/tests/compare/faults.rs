@@ -1,8 +1,10 @@
 //! Copies of the model with one fault each: the comparison has to see it.
 
-use model::calls::{Model, Numbers, Rules};
-use model::world::{group_code, outcome_code};
-use model::{one_command, play_list, Command, Kind, Played, Row, Side, State, World};
+use model::calls::{Model, Rules};
+use model::play::play_command;
+use model::row::ROW_BYTES;
+use model::world::MAX_ROWS;
+use model::{number, Ask, Command, GroupRecord, Kind, Numbers, Row, Side, State, World};
 
 #[derive(Clone, Copy, Debug, PartialEq, Eq)]
 pub enum Fault {
@@ -37,56 +39,17 @@ pub const FAULTS: [Fault; 7] = [
 pub struct Faulty(pub Fault);
 
 impl Rules for Faulty {
-    fn list(&self, store: &mut [u8], list: &[u8]) -> Played {
-        let opened = play_list(&mut store.to_vec(), list);
-        if opened.world == World::ZEROS {
-            return opened;
-        }
-        let World {
-            n,
-            commit,
-            abort,
-            willing,
-            ..
-        } = opened.world;
-        let mut played = Played {
-            number: 0,
-            world: World::fresh(n, commit, abort, willing),
-            events: 0,
-            place: 5,
-        };
-        while played.place < list.len() {
-            match self.command(&mut played.world, store, list, played.place) {
-                Ok(next) => {
-                    played.place = next;
-                    played.events += 1;
-                }
-                Err(number) => {
-                    played.number = number;
-                    break;
-                }
-            }
-        }
-        played
-    }
-
-    fn command(
-        &self,
-        world: &mut World,
-        store: &mut [u8],
-        list: &[u8],
-        at: usize,
-    ) -> Result<usize, u8> {
+    fn command(&self, world: &mut World, store: &mut [u8], ask: Ask) -> Result<usize, u8> {
         let before = *world;
-        let next = match (self.0, one_command(world, store, list, at)) {
-            (Fault::MistakesBadRow, Err(10)) => Err(9),
-            (Fault::FearsFullStore, Ok(_)) if before.rows == 1024 => {
+        let next = match (self.0, play_command(world, store, ask)) {
+            (Fault::MistakesBadRow, Err(number::BAD_ROW)) => Err(number::ROW),
+            (Fault::FearsFullStore, Ok(_)) if before.row_count == MAX_ROWS => {
                 *world = before;
-                Err(17)
+                Err(number::WORLD)
             }
             (_, answer) => answer,
         }?;
-        let (command, _) = Command::read(list, at)?;
+        let (command, _) = Command::read(ask)?;
         self.spoil(&before, world, store, command);
         Ok(next)
     }
@@ -106,54 +69,57 @@ impl Faulty {
         let me = command.site();
         match (self.0, command) {
             (Fault::KeepsVector, Command::Crash(_)) => {
-                world.sites[me].codes = before.sites[me].codes;
+                world.sites[me].vector = before.sites[me].vector;
             }
             (Fault::CountsAllEntries, Command::Timeout(_)) => count_all(before, world, store, me),
             (Fault::LeavesAbortGroup, Command::Deliver { row, .. })
-                if store[row * 20] == Kind::Join(Side::Commit).byte() =>
+                if store[row * ROW_BYTES] == Kind::Join(Side::Commit).byte() =>
             {
                 leave_abort_group(before, world, store, me)
             }
-            (Fault::WritesPastRows, _) if world.rows < 1024 => store[world.rows * 20] ^= 1,
+            (Fault::WritesPastRows, _) if world.row_count < MAX_ROWS => {
+                store[world.row_count * ROW_BYTES] ^= 1
+            }
             _ => {}
         }
     }
 }
 
 fn count_all(before: &World, world: &mut World, store: &mut [u8], me: usize) {
-    let State::Joined(side) = world.sites[me].state() else {
+    let site = &mut world.sites[me];
+    let State::InGroup(side) = site.state() else {
         return;
     };
-    let codes = &world.sites[me].codes;
-    let count = codes.iter().filter(|&&code| code != 0).count();
-    let same = before.sites[me].state() == State::Joined(side);
-    if same && before.sites[me].coordinator && count >= world.quorum(side) {
-        world.sites[me].outcome = Some(side);
-        world.sites[me].codes[me] = outcome_code(side);
+    let known = site.vector.codes().iter().filter(|&&code| code != 0);
+    let led = before.sites[me].is_coordinator() && before.sites[me].state() == site.state();
+    if led && known.count() >= world.sizes.quorum(side) {
+        site.log.outcome = Some(side);
+        site.vector.set(me, site.state());
         send_again(world, store, me, Kind::Outcome);
     }
 }
 
 fn leave_abort_group(before: &World, world: &mut World, store: &mut [u8], me: usize) {
-    let abort = State::Joined(Side::Abort);
+    let abort = State::InGroup(Side::Abort);
     let site = &mut world.sites[me];
     if before.sites[me].state() == abort && site.state() == abort {
-        site.group = Some(Side::Commit);
-        site.codes[me] = group_code(Side::Commit);
-        site.joined = site.codes;
+        let side = Side::Commit;
+        site.vector.set(me, State::InGroup(side));
+        let vector = site.vector;
+        site.log.group = Some(GroupRecord { side, vector });
         send_again(world, store, me, Kind::InGroup);
     }
 }
 
 /// The last row, with the site's vector and kind as they are now.
 fn send_again(world: &World, store: &mut [u8], me: usize, kind: Kind) {
-    let last = world.rows - 1;
-    let sent = Row::read(store, last, world.n).expect("just written");
-    let codes = world.sites[me].codes;
-    Row {
+    let last = world.row_count - 1;
+    let sent = Row::read(store, last, world.sizes.n).expect("just written");
+    let vector = world.sites[me].vector;
+    let row = Row {
         kind,
-        codes,
+        vector,
         ..sent
-    }
-    .write(store, last);
+    };
+    row.write(store, last);
 }

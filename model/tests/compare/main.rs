@@ -4,6 +4,8 @@
 
 #![deny(unsafe_code)]
 
+#[path = "../common/mod.rs"]
+mod common;
 mod comparer;
 mod directed;
 mod faults;
@@ -12,12 +14,14 @@ mod ffi;
 
 use std::time::Instant;
 
-use model::calls::{Calls, Model, Numbers, RESULT_BYTES};
+use model::calls::{Calls, Model, RESULT_BYTES};
 use model::generate::Generator;
 use model::layout::{encode, WORLD_BYTES};
-use model::play_list;
 use model::row::STORE_BYTES;
+use model::tally::Sight;
+use model::{number, play_list, Numbers};
 
+use common::{M3_LIST, M3_REPORT};
 use comparer::Comparer;
 use faults::{Fault, Faulty, FAULTS};
 use ffi::Library;
@@ -49,9 +53,10 @@ const PART: Amount = Amount {
     reports: 500,
 };
 
-/// Clauses of which the directed calls must have hit each. A name that is
-/// hit is put down by the call itself; these are the paper's.
-const CLAUSES: [&str; 40] = [
+/// Every clause of document 01's table of numbers, in its order. Those that
+/// speak of the layout, of a list's world length and of the result length are
+/// docs/LAYOUT.md's. Each must be hit by a call made by hand for it.
+const CLAUSES: &[&str] = &[
     "16 store too short",
     "17 n under 3",
     "17 n over 16",
@@ -79,19 +84,48 @@ const CLAUSES: [&str; 40] = [
     "17 result length",
     "17 world length of a list",
     "17 stop number",
-    "17 events or place over 32,768",
+    "17 events over 32,768",
+    "17 place over 32,768",
+    "1 over 32,768",
+    "2 under 5",
+    "3 n under 3",
+    "3 n over 16",
+    "4 C over n - 1",
+    "4 A over n - 1",
+    "4 C + A under n + 1",
+    "5 willing bit at n or above",
     "6 none left",
     "6 not 1 to 5",
+    "7 operands cut short",
+    "8 site n or more",
     "9 row not below the count",
     "10 kind not 1 to 7",
     "10 sender n or more",
     "10 code above 5",
     "11 not a destination",
+    "12 down: START",
+    "12 down: DELIVER",
+    "12 down: TIMEOUT",
+    "12 down: CRASH",
+    "13 RECOVER while up",
+    "14 START, not active",
     "15 START",
     "15 DELIVER of a command",
     "15 TIMEOUT of a coordinator",
     "15 TIMEOUT of a subordinate",
     "18 buffer too short",
+];
+
+/// The least that is asked for of the lists compared: in how many of a hundred
+/// each sight is had, and in how many of a hundred of the longer lists.
+const LEAST: [(Sight, usize, usize); 7] = [
+    (Sight::Repeat, 30, 90),
+    (Sight::SeveralLeaders, 30, 90),
+    (Sight::FullStore, 1, 60),
+    (Sight::CrashMidway, 10, 40),
+    (Sight::BothGroups, 4, 30),
+    (Sight::CommitQuorum, 15, 20),
+    (Sight::AbortQuorum, 4, 30),
 ];
 
 /// All that is compared; the first difference ends it.
@@ -105,14 +139,13 @@ fn made_by_hand(both: &mut Comparer) -> Result<(), String> {
     directed::worlds(both)?;
     directed::every_byte(both)?;
     directed::commands(both)?;
-    let mut worlds = directed::report_worlds().into_iter();
-    worlds.try_for_each(|world| directed::reports(both, &world))
+    directed::reports(both)
 }
 
 fn generated(both: &mut Comparer, amount: &Amount) -> Result<(), String> {
     generated_lists(both, Generator::up_to(SEED, 160), amount.short)?;
     generated_lists(both, Generator::up_to(SEED + 1, 1_500), amount.middle)?;
-    generated_lists(both, Generator::new(SEED + 2), amount.long)?;
+    generated_lists(both, Generator::long(SEED + 2), amount.long)?;
     generated_calls(both, amount.calls)?;
     generated_reports(both, amount.reports)
 }
@@ -135,8 +168,7 @@ fn generated_calls(both: &mut Comparer, count: usize) -> Result<(), String> {
     let mut from = Generator::new(SEED + 3);
     for _ in 0..count {
         let call = from.next_call();
-        let world = encode(&call.world);
-        both.command(&world, &call.store, &call.list, call.at, RESULT_BYTES)?;
+        both.command(&call.world, &call.store, call.ask(), RESULT_BYTES)?;
     }
     Ok(())
 }
@@ -147,27 +179,23 @@ fn generated_reports(both: &mut Comparer, count: usize) -> Result<(), String> {
     let mut store = vec![0; STORE_BYTES];
     for at in 0..count {
         let played = play_list(&mut store, &from.next_list());
-        let numbers = Numbers {
-            events: played.events,
-            stop: played.number.into(),
-            place: played.place,
-        };
+        let numbers = played.numbers();
         let size = 1_022 + at % 5;
         both.report(&encode(&played.world), numbers, size, RESULT_BYTES)?;
         if at % 4 == 0 {
             let stop = at as u32 / 4 % 21;
-            let world = encode(&from.next_call().world);
-            both.report(&world, Numbers { stop, ..numbers }, size, RESULT_BYTES)?;
+            let numbers = Numbers { stop, ..numbers };
+            both.report(&from.next_call().world, numbers, size, RESULT_BYTES)?;
         }
     }
     Ok(())
 }
 
 fn print(both: &Comparer) {
-    println!(
-        "lists {} (events {}), commands {}, reports {}",
-        both.lists, both.events, both.calls, both.reports
-    );
+    let (lists, calls, reports) = (both.lists, both.calls, both.reports);
+    println!("lists {lists}, commands {calls}, reports {reports}");
+    println!("played: {}", both.tally);
+    println!("longer: {}", both.longer);
     for (number, count) in &both.numbers {
         println!("number {number:2} seen {count:8}");
     }
@@ -185,24 +213,32 @@ fn library_and_model_agree() {
     }
     print(&both);
     println!("no difference in {:.1} s", start.elapsed().as_secs_f64());
-    assert!(both.lists >= 100_000);
-    for number in 0..=18 {
+    for number in 0..=number::LAST.into() {
         assert!(both.numbers.contains_key(&number), "{number} never seen");
     }
     for name in CLAUSES {
         assert!(both.clauses.contains_key(name), "{name} never hit");
+    }
+    assert_rich(&both);
+}
+
+/// There are many lists, many of them long, and much happens in them.
+fn assert_rich(both: &Comparer) {
+    let (all, longer) = (&both.tally, &both.longer);
+    assert!(all.lists >= 100_000 && longer.lists >= 1_000);
+    assert!(all.sites.iter().filter(|&&n| n > 0).copied().eq(3..=16));
+    for (sight, of_all, of_longer) in LEAST {
+        assert!(all.percent(sight) >= of_all, "{sight:?} is rare");
+        assert!(longer.percent(sight) >= of_longer, "{sight:?} is rare");
     }
 }
 
 /// The paper's own report, from the library.
 #[test]
 fn the_library_writes_the_report_of_the_paper() {
-    let list = [
-        3, 2, 2, 7, 0, 1, 2, 0, 0, 1, 2, 1, 0, 0, 3, 0, 2, 2, 0, 2, 2, 3, 0, 0, 3, 0,
-    ];
     let (mut store, mut world) = (vec![0xee; STORE_BYTES], vec![0xee; WORLD_BYTES]);
     let (mut result, mut buffer) = ([0xee; RESULT_BYTES], [0xee; 1024]);
-    let number = Library.play_list(&list, &mut store, &mut world, &mut result);
+    let number = Library.play_list(&M3_LIST, &mut store, &mut world, &mut result);
     assert_eq!((number, result), (0, [7, 0, 0, 0, 26, 0, 0, 0]));
     let numbers = Numbers {
         events: 7,
@@ -211,14 +247,10 @@ fn the_library_writes_the_report_of_the_paper() {
     };
     let number = Library.report(&world, numbers, &mut buffer, &mut result);
     assert_eq!(number, 0);
-    let text = "sites 3 commit 2 abort 2 events 7 rows 5\n\
-                0 up coordinator aborted PAa 513\n\
-                1 up subordinate prepared P-- 110\n\
-                2 up subordinate abort-group -A- 313\n\
-                end 26\n";
+    let (text, rest) = buffer.split_at(M3_REPORT.len());
     assert_eq!(result, text.len().to_le_bytes());
-    assert_eq!(&buffer[..text.len()], text.as_bytes());
-    assert!(buffer[text.len()..].iter().all(|&byte| byte == 0xee));
+    assert_eq!(text, M3_REPORT.as_bytes());
+    assert!(rest.iter().all(|&byte| byte == 0xee));
 }
 
 /// A copy of the model without a fault agrees; with any fault it does not, by

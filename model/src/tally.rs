@@ -1,0 +1,190 @@
+//! What lists lead to, counted over many of them.
+
+use std::collections::{BTreeMap, BTreeSet};
+use std::fmt;
+
+use crate::command::Command;
+use crate::play::{play_command, play_list_by, Played};
+use crate::row::STORE_BYTES;
+use crate::site::{Side, Site, State};
+use crate::world::{World, MAX_ROWS};
+
+/// Things that a list can lead to.
+#[derive(Clone, Copy, Debug, PartialEq, Eq)]
+pub enum Sight {
+    /// A row is delivered to the same site again.
+    Repeat,
+    /// Two sites are coordinators at once.
+    SeveralLeaders,
+    /// The two groups are there at once.
+    BothGroups,
+    /// A site crashes while some are in a group and none has ended.
+    CrashMidway,
+    /// A coordinator counts a commit quorum and commits.
+    CommitQuorum,
+    /// A coordinator counts an abort quorum and aborts.
+    AbortQuorum,
+    /// Every row the store has room for is sent.
+    FullStore,
+}
+
+impl Sight {
+    pub const ALL: [Sight; 7] = [
+        Sight::Repeat,
+        Sight::SeveralLeaders,
+        Sight::BothGroups,
+        Sight::CrashMidway,
+        Sight::CommitQuorum,
+        Sight::AbortQuorum,
+        Sight::FullStore,
+    ];
+}
+
+/// A list played with an eye on it.
+pub struct Day {
+    pub played: Played,
+    seen: [bool; Sight::ALL.len()],
+}
+
+impl Day {
+    /// Plays a list on a store of its own.
+    pub fn watch(list: &[u8]) -> Day {
+        let mut eye = Eye::new();
+        let mut store = vec![0; STORE_BYTES];
+        let played = play_list_by(&mut store, list, |world, store, ask| {
+            let (command, _) = Command::read(ask)?;
+            let before = world.sites.get(command.site()).map(Site::state);
+            let next = play_command(world, store, ask)?;
+            eye.look(world, command, before);
+            Ok(next)
+        });
+        let seen = eye.seen;
+        Day { played, seen }
+    }
+
+    pub fn saw(&self, sight: Sight) -> bool {
+        self.seen[sight as usize]
+    }
+}
+
+/// What was seen of a list so far.
+struct Eye {
+    seen: [bool; Sight::ALL.len()],
+    /// For each row, the sites it has reached.
+    reached: [u16; MAX_ROWS],
+}
+
+impl Eye {
+    fn new() -> Eye {
+        Eye {
+            seen: [false; Sight::ALL.len()],
+            reached: [0; MAX_ROWS],
+        }
+    }
+
+    fn note(&mut self, sight: Sight, is_seen: bool) {
+        self.seen[sight as usize] |= is_seen;
+    }
+
+    /// Looks at the world after a command at a site that was in this state.
+    fn look(&mut self, world: &World, command: Command, before: Option<State>) {
+        let after = world.sites[command.site()].state();
+        match command {
+            Command::Deliver { row, site } => {
+                self.note(Sight::Repeat, self.reached[row] >> site & 1 == 1);
+                self.reached[row] |= 1 << site;
+            }
+            Command::Timeout(_) => {
+                self.look_at_leaders(world);
+                self.look_for_quorum(before, after);
+            }
+            Command::Crash(_) => self.look_at_crash(world),
+            Command::Start | Command::Recover(_) => {}
+        }
+        if before != Some(after) {
+            self.look_at_groups(world);
+        }
+        self.note(Sight::FullStore, world.row_count == MAX_ROWS);
+    }
+
+    fn look_at_leaders(&mut self, world: &World) {
+        let leaders = world.members().iter().filter(|site| site.is_coordinator());
+        self.note(Sight::SeveralLeaders, leaders.count() > 1);
+    }
+
+    fn look_for_quorum(&mut self, before: Option<State>, after: State) {
+        for (sight, side) in [
+            (Sight::CommitQuorum, Side::Commit),
+            (Sight::AbortQuorum, Side::Abort),
+        ] {
+            let was_in_group = before == Some(State::InGroup(side));
+            self.note(sight, was_in_group && after == State::Terminated(side));
+        }
+    }
+
+    fn look_at_crash(&mut self, world: &World) {
+        let mut members = world.members().iter();
+        let is_open = members.clone().all(|site| site.log.outcome.is_none());
+        let some_joined = members.any(|site| site.log.group.is_some());
+        self.note(Sight::CrashMidway, is_open && some_joined);
+    }
+
+    fn look_at_groups(&mut self, world: &World) {
+        let is_there = |side| {
+            let mut members = world.members().iter();
+            members.any(|site| site.log.group_side() == Some(side))
+        };
+        self.note(
+            Sight::BothGroups,
+            is_there(Side::Commit) && is_there(Side::Abort),
+        );
+    }
+}
+
+/// What was seen over many lists.
+#[derive(Clone, Debug, Default)]
+pub struct Tally {
+    pub lists: usize,
+    /// Accepted commands of all lists.
+    pub events: usize,
+    /// Bytes of the longest list.
+    pub longest: usize,
+    /// The numbers of sites met, 0 where the header was refused.
+    pub sites: BTreeSet<usize>,
+    numbers: BTreeMap<u8, usize>,
+    seen: [usize; Sight::ALL.len()],
+}
+
+impl Tally {
+    pub fn add(&mut self, list: &[u8], day: &Day) {
+        self.lists += 1;
+        self.events += day.played.events;
+        self.longest = self.longest.max(list.len());
+        self.sites.insert(day.played.world.sizes.n);
+        *self.numbers.entry(day.played.number).or_default() += 1;
+        for (count, &is_seen) in self.seen.iter_mut().zip(&day.seen) {
+            *count += usize::from(is_seen);
+        }
+    }
+
+    /// How many of a hundred lists led to this.
+    pub fn percent(&self, sight: Sight) -> usize {
+        100 * self.seen[sight as usize] / self.lists.max(1)
+    }
+
+    /// How many lists ended with a stop number, 0 for the list's end.
+    pub fn ended(&self, number: u8) -> usize {
+        self.numbers.get(&number).copied().unwrap_or(0)
+    }
+}
+
+impl fmt::Display for Tally {
+    fn fmt(&self, f: &mut fmt::Formatter) -> fmt::Result {
+        write!(f, "{} lists, {} events", self.lists, self.events)?;
+        for sight in Sight::ALL {
+            let (count, percent) = (self.seen[sight as usize], self.percent(sight));
+            write!(f, ", {sight:?} in {count} ({percent}%)")?;
+        }
+        Ok(())
+    }
+}

@@ -1,0 +1,78 @@
+//! What several tests need.
+
+#![allow(dead_code)] // No test needs all of it.
+
+use model::generate::list_of;
+use model::{Command, GroupRecord, Role, Side, Sizes, State, Vector, World};
+
+use Command::{Start, Timeout};
+
+/// The list of the worked report, in bytes.
+pub const M3_LIST: [u8; 26] = [
+    3, 2, 2, 7, 0, 1, 2, 0, 0, 1, 2, 1, 0, 0, 3, 0, 2, 2, 0, 2, 2, 3, 0, 0, 3, 0,
+];
+
+/// The worked report.
+pub const M3_REPORT: &str = "sites 3 commit 2 abort 2 events 7 rows 5\n\
+                             0 up coordinator aborted PAa 513\n\
+                             1 up subordinate prepared P-- 110\n\
+                             2 up subordinate abort-group -A- 313\n\
+                             end 26\n";
+
+/// The same day but for its last command: sites 0 and 2 are in the abort
+/// group, and site 0 knows it.
+pub const TWO_AGAINST: [Command; 6] = [
+    Start,
+    Command::deliver(0, 1),
+    Command::deliver(1, 0),
+    Timeout(0),
+    Command::deliver(2, 2),
+    Command::deliver(3, 0),
+];
+
+/// Three sites, quorums of two.
+pub fn three_sites(willing: u16) -> Sizes {
+    Sizes::new(3, 2, 2, willing)
+}
+
+/// A list of three sites with these willing bits and commands.
+pub fn three(willing: u16, commands: &[Command]) -> Vec<u8> {
+    list_of(three_sites(willing), commands)
+}
+
+/// A list without commands.
+pub fn header(n: usize, c: usize, a: usize, willing: u16) -> Vec<u8> {
+    list_of(Sizes::new(n, c, a, willing), &[])
+}
+
+/// START, and TIMEOUT of site 0 so often that so many rows are sent.
+pub fn rows_of_site_0(rows: usize) -> Vec<Command> {
+    let mut commands = vec![Timeout(0); rows];
+    commands[0] = Start;
+    commands
+}
+
+/// The vector that begins with these codes.
+pub fn vector(codes: &[u8]) -> Vector {
+    Vector::read(codes).expect("codes up to 5")
+}
+
+/// A group record with a vector that begins with these codes.
+pub fn group(side: Side, codes: &[u8]) -> Option<GroupRecord> {
+    let vector = vector(codes);
+    Some(GroupRecord { side, vector })
+}
+
+/// The world whose report is the longest.
+pub fn widest() -> World {
+    let mut world = World::fresh(Sizes::new(16, 15, 15, u16::MAX));
+    world.row_count = 1024;
+    for (me, site) in world.sites.iter_mut().enumerate() {
+        site.up = false;
+        site.role = Role::Coordinator;
+        site.log.prepare = true;
+        site.vector.set(me, State::InGroup(Side::Commit));
+        site.log.group = group(Side::Commit, site.vector.codes());
+    }
+    world
+}
