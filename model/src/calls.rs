@@ -13,7 +13,8 @@ pub const RESULT_BYTES: usize = 8;
 
 /// One side of a comparison: anything that answers the three calls.
 pub trait Calls {
-    /// A whole list; the world and the result are written unless 16 or 17.
+    /// A whole list; the world and the result are written where they have their
+    /// lengths.
     fn play_list(&self, list: &[u8], store: &mut [u8], world: &mut [u8], result: &mut [u8]) -> u32;
 
     /// One command; a refusal touches nothing.
@@ -50,11 +51,8 @@ impl Rules for Model {}
 
 impl<R: Rules> Calls for R {
     fn play_list(&self, list: &[u8], store: &mut [u8], world: &mut [u8], result: &mut [u8]) -> u32 {
-        if let Err(number) = check_store(store) {
-            return number.into();
-        }
         if world.len() != WORLD_BYTES || result.len() != RESULT_BYTES {
-            return number::WORLD.into();
+            return check_store(store).err().unwrap_or(number::WORLD).into();
         }
         let played = self.list(store, list);
         world.copy_from_slice(&encode(&played.world));

@@ -30,6 +30,24 @@ pub const USUAL: Lengths = Lengths {
 const PLAYED: [&str; 3] = ["store", "world", "result"];
 const REPORTED: [&str; 2] = ["buffer", "result"];
 
+/// The numbers at which a list is not begun: the world of zeros, no events and
+/// place 0 are written then.
+const NOTHING_PLAYED: [u8; 6] = [
+    number::STORE,
+    number::LIST_LONG,
+    number::LIST_SHORT,
+    number::SITES,
+    number::QUORUMS,
+    number::WILLING,
+];
+
+/// The world of zeros as bytes: the layout's number, and nothing else.
+const ZEROS: [u8; WORLD_BYTES] = {
+    let mut bytes = [0; WORLD_BYTES];
+    bytes[0] = 1;
+    bytes
+};
+
 /// Longest list of which the shortest differing part is looked for.
 const SHORTENED: usize = 4_000;
 /// A list of which more bytes than this are played is one of the longer ones.
@@ -102,11 +120,16 @@ impl<'a> Comparer<'a> {
             (number, after)
         };
         let (number, after) = same("list", PLAYED, play(self.library), play(self.model))?;
-        if [number::STORE, number::WORLD]
-            .map(u32::from)
-            .contains(&number)
-        {
+        if lengths.world != WORLD_BYTES || lengths.result != RESULT_BYTES {
             return untouched(&after, &start, number);
+        }
+        if NOTHING_PLAYED.map(u32::from).contains(&number) {
+            let [store, ..] = start;
+            return untouched(
+                &after,
+                &[store, ZEROS.into(), vec![0; RESULT_BYTES]],
+                number,
+            );
         }
         let [store, world, _] = &after;
         let used = value(&world[8..10]) * ROW_BYTES;
