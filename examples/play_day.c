@@ -1,5 +1,5 @@
 /* Plays a list and prints its report: the list file named by the argument, or the day M3.
- *   cc -Wall -Wextra -Werror -Iinclude examples/play_day.c target/staticlib/libcapi.a -o play_day
+ *   cc -Wall -Wextra -Werror -Iinclude examples/play_day.c target/staticlib/libquorum.a -o play_day
  */
 #include <stdio.h>
 

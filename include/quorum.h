@@ -1,6 +1,6 @@
 /* Quorum commitment player: the calls offered to C.
  *
- * Link with target/staticlib/libcapi.a (x86-64 Linux). The library keeps no state, allocates nothing and always returns.
+ * Link with target/staticlib/libquorum.a (x86-64 Linux). The library keeps no state, allocates nothing and always returns.
  *
  * Of every call:
  * - A buffer is a pointer and its length in bytes. No pointer is NULL, a buffer's bytes are all the caller's, and a buffer that a call may

@@ -1,4 +1,4 @@
-//! Says where the proved library is: in the folder that CAPI_LIB names, else
+//! Says where the proved library is: in the folder that QUORUM_LIB names, else
 //! in the repository's target/staticlib. Only the bench and the comparison
 //! link it.
 
@@ -7,12 +7,12 @@ use std::path::{Path, PathBuf};
 
 fn main() {
     let package = PathBuf::from(env::var_os("CARGO_MANIFEST_DIR").expect("cargo sets it"));
-    let named = env::var_os("CAPI_LIB").unwrap_or("../target/staticlib".into());
+    let named = env::var_os("QUORUM_LIB").unwrap_or("../target/staticlib".into());
     let folder = package.join(Path::new(&named));
-    println!("cargo::rerun-if-env-changed=CAPI_LIB");
+    println!("cargo::rerun-if-env-changed=QUORUM_LIB");
     println!(
         "cargo::rerun-if-changed={}",
-        folder.join("libcapi.a").display()
+        folder.join("libquorum.a").display()
     );
     println!("cargo::rustc-link-search=native={}", folder.display());
 }

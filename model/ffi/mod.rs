@@ -6,7 +6,7 @@
 use model::calls::Calls;
 use model::{Ask, Numbers};
 
-#[link(name = "capi", kind = "static")]
+#[link(name = "quorum", kind = "static")]
 extern "C" {
     fn qc_play_list(
         list: *const u8,

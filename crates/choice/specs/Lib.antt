@@ -1,2 +1,2 @@
 pub mod Choice
-pub mod Cases
+pub mod laws

@@ -1,3 +1,3 @@
 pub mod Shown
 pub mod Table
-pub mod AllDays
+pub mod laws

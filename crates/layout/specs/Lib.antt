@@ -1,5 +1,3 @@
 pub mod Numbers
-pub mod NumberLaws
 pub mod Layout
-pub mod SiteLaws
-pub mod LayoutLaws
+pub mod laws

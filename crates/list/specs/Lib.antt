@@ -1,10 +1,3 @@
 pub mod Play
 pub mod Claims
-pub mod Places
-pub mod CommandLaws
-pub mod FreshValid
-pub mod PlayLaws
-pub mod HeaderLaws
-pub mod ListTheorems
-pub mod Loop
-pub mod LoopLaws
+pub mod laws

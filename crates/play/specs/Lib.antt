@@ -1,5 +1,4 @@
 pub mod Calls
-pub mod Changes
-pub mod CallLaws
 pub mod Commands
 pub mod Run
+pub mod laws

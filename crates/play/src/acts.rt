@@ -1,7 +1,7 @@
 // What was read, acted out on the one site that it names.
 ghost use mathlib.Core.Path.{_≡_};
 ghost use Prim.Native.Nat.{_<_};
-ghost use Rattle.play.specs.Changes.{Ready, Acts, namedSite, actor};
+ghost use Rattle.play.specs.laws.Changes.{Ready, Acts, namedSite, actor};
 ghost use Rattle.play.specs.Commands.{perform, performRead};
 use crate::Change;
 use crate::Head;

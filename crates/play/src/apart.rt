@@ -1,6 +1,6 @@
 // A world taken apart into its sites and its head, and put together.
 ghost use mathlib.Core.Path.{_≡_};
-ghost use Rattle.play.specs.Changes.{headOf, worldOf};
+ghost use Rattle.play.specs.laws.Changes.{headOf, worldOf};
 use crate::Head;
 use site::Site;
 use world::World;

@@ -1,7 +1,7 @@
 // The five commands on the site that they name, each after its refusals. 8 is asked before.
 ghost use mathlib.Core.Path.{_≡_};
 ghost use Prim.Native.Nat.{_<_};
-ghost use Rattle.play.specs.Changes.{Ready, Acts};
+ghost use Rattle.play.specs.laws.Changes.{Ready, Acts};
 ghost use Rattle.play.specs.Commands.{startCall, timeoutCall, crashCall, recoverCall, deliverRow, deliverCall};
 use crate::Change;
 use crate::Head;

@@ -3,7 +3,7 @@ ghost use mathlib.Core.Path.{_≡_};
 ghost use mathlib.Core.List.{List};
 ghost use Rattle.site.specs.Records.{Written};
 ghost use Rattle.play.specs.Calls.{enter};
-ghost use Rattle.play.specs.Changes.{Ready, Acts, refusedChange};
+ghost use Rattle.play.specs.laws.Changes.{Ready, Acts, refusedChange};
 use crate::Change;
 use crate::Head;
 use site::Site;

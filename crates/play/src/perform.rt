@@ -1,7 +1,7 @@
 // One command, read and performed.
 ghost use mathlib.Core.Path.{_≡_};
 ghost use Rattle.play.specs.Calls.{playedOf};
-ghost use Rattle.play.specs.Changes.{Ready, headOf};
+ghost use Rattle.play.specs.laws.Changes.{Ready, headOf};
 ghost use Rattle.play.specs.Commands.{playCommand, oneCommand};
 use crate::Played;
 use crate::acts::act;

@@ -1,2 +1,2 @@
 pub mod Shown
-pub mod ShownLaws
+pub mod laws

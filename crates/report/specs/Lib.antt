@@ -1,5 +1,3 @@
 pub mod Lines
 pub mod Report
-pub mod LineLaws
-pub mod ReportLaws
-pub mod LengthLaws
+pub mod laws

@@ -5,7 +5,7 @@ ghost use Prim.Native.Nat.{_+_, _<_, _≤_};
 ghost use mathlib.Core.List.{_++_};
 ghost use lib.ListN.{length};
 ghost use Rattle.text.specs.Text.{text, decimal, named};
-ghost use Rattle.text.specs.Written.{Written};
+ghost use Rattle.text.specs.laws.Written.{Written};
 ghost use Rattle.vector.specs.Vector.{validVector};
 ghost use Rattle.site.specs.State.{stateOf};
 ghost use Rattle.world.specs.Valid.{validWorld};

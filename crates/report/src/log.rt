@@ -4,7 +4,7 @@ ghost use mathlib.Core.Bool.{true};
 ghost use Prim.Native.Nat.{_+_, _<_, _≤_};
 ghost use lib.ListN.{length};
 ghost use Rattle.text.specs.Text.{text};
-ghost use Rattle.text.specs.Written.{Written};
+ghost use Rattle.text.specs.laws.Written.{Written};
 ghost use Rattle.vector.specs.Vector.{validVector};
 ghost use Rattle.report.specs.Lines.{prepareLetter, groupLetter, outcomeLetter, logLetters, codeDigits};
 use site::Group;

@@ -2,7 +2,7 @@
 ghost use Prim.Native.Nat.{_+_, _≤_};
 ghost use lib.ListN.{length};
 ghost use Rattle.text.specs.Text.{text};
-ghost use Rattle.text.specs.Written.{Written};
+ghost use Rattle.text.specs.laws.Written.{Written};
 ghost use Rattle.report.specs.Lines.{upWord, roleWord, stateWord};
 use site::State;
 use text::put_word;

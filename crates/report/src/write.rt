@@ -3,7 +3,7 @@ ghost use mathlib.Core.Path.{_≡_};
 ghost use mathlib.Core.Bool.{true};
 ghost use Prim.Native.Nat.{_<_, _≤_};
 ghost use lib.ListN.{length};
-ghost use Rattle.text.specs.Written.{Written};
+ghost use Rattle.text.specs.laws.Written.{Written};
 ghost use Rattle.report.specs.Report.{reportText, reportValid, report};
 use crate::LAST_NUMBER;
 use crate::Reported;

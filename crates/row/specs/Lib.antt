@@ -1,5 +1,3 @@
 pub mod Bits
-pub mod BitLaws
 pub mod Rows
-pub mod RowLaws
-pub mod KnownLaws
+pub mod laws

@@ -1,4 +1,2 @@
 pub mod Text
-pub mod Written
-pub mod TextLaws
-pub mod DecimalLaws
+pub mod laws

@@ -3,7 +3,7 @@ ghost use Prim.Native.Nat.{_+_, _<_, _≤_};
 ghost use mathlib.Core.List.{[], _∷_, _++_};
 ghost use lib.ListN.{length};
 ghost use Rattle.text.specs.Text.{digitAt, decimal};
-ghost use Rattle.text.specs.Written.{Written};
+ghost use Rattle.text.specs.laws.Written.{Written};
 
 // The word put at a place; the place after it.
 pub fn put_word(buffer: &mut [u8], at: usize, word: &[u8]) -> usize

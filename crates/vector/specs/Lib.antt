@@ -1,3 +1,3 @@
 pub mod Codes
 pub mod Vector
-pub mod VectorLaws
+pub mod laws

@@ -1,6 +1,4 @@
 pub mod Sizes
-pub mod SizesLaws
 pub mod Worlds
 pub mod Valid
-pub mod WorldLaws
-pub mod PartLaws
+pub mod laws

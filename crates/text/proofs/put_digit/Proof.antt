@@ -1,6 +1,6 @@
 use borrow.Author.Needs.{needs}
 use native.Mathlib.Omega.{arith}
-use Rattle.text.specs.TextLaws.{digit-out, digit-in}
+use Rattle.text.specs.laws.TextLaws.{digit-out, digit-in}
 use Rattle.text.proofs.put_digit.Statement.{statement}
 use Rattle.text.proofs.put_digit.Tie as tie
 use Rattle.text.proofs.put_digit.Reads as reads

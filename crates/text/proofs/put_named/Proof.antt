@@ -1,6 +1,6 @@
 use borrow.Author.Needs.{needs}
 use native.Mathlib.Omega.{arith}
-use Rattle.text.specs.Written.{joined}
+use Rattle.text.specs.laws.Written.{joined}
 use Rattle.text.proofs.put_named.Statement.{statement}
 use Rattle.text.proofs.put_named.Tie as tie
 use Rattle.text.proofs.put_named.Reads as reads

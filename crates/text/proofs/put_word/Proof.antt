@@ -4,7 +4,7 @@ use Prim.Native.Nat.{_≤_, _-_}
 use mathlib.Core.Path.{_≡_}
 use lib.ListN.{length, take, length-set}
 use lib.Seq.{sets}
-use Rattle.text.specs.Written.{word-more, word-whole}
+use Rattle.text.specs.laws.Written.{word-more, word-whole}
 use Rattle.text.proofs.put_word.Statement.{statement}
 use Rattle.text.proofs.put_word.Tie as tie
 use Rattle.text.proofs.put_word.Reads as reads

@@ -1,5 +1,5 @@
 use borrow.Author.Needs.{needs}
-use Rattle.choice.specs.Choice.{tests}
+use Rattle.choice.specs.laws.ChoiceLaws.{tests}
 use Rattle.command.specs.Commands.{readCommand}
 use Rattle.command.proofs.reader.read_at.Statement.{statement}
 use Rattle.command.proofs.reader.read_at.Tie as tie

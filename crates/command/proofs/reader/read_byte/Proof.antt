@@ -1,5 +1,5 @@
 use borrow.Author.Needs.{needs}
-use Rattle.choice.specs.Choice.{tests}
+use Rattle.choice.specs.laws.ChoiceLaws.{tests}
 use Rattle.command.specs.Commands.{readByte}
 use Rattle.command.proofs.reader.read_byte.Statement.{statement}
 use Rattle.command.proofs.reader.read_byte.Tie as tie

@@ -1,4 +1,4 @@
-use Rattle.choice.specs.Choice.{tests}
+use Rattle.choice.specs.laws.ChoiceLaws.{tests}
 use borrow.Author.Needs.{needs}
 use Rattle.layout.proofs.check.most_through.Statement.{statement}
 use Rattle.layout.proofs.check.most_through.Tie as tie

@@ -1,4 +1,4 @@
-use Rattle.layout.specs.NumberLaws.{putNumber-length}
+use Rattle.layout.specs.laws.NumberLaws.{putNumber-length}
 use native.Mathlib.Omega.{arith}
 use lib.ListN.{length-set}
 use Rattle.layout.specs.Layout.{putFlags}

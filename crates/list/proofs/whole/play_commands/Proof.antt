@@ -1,10 +1,10 @@
-use Rattle.list.specs.HeaderLaws.{headed}
+use Rattle.list.specs.laws.HeaderLaws.{headed}
 use Rattle.world.specs.Worlds.{withSite, withRows}
-use Rattle.world.specs.PartLaws.{siteOf-within}
-use Rattle.list.specs.LoopLaws.{may-act, changes-on, changes-past, changes-out}
-use Rattle.list.specs.Loop.{Underway, loop-begins, loop-ends}
+use Rattle.world.specs.laws.PartLaws.{siteOf-within}
+use Rattle.list.specs.laws.LoopLaws.{may-act, changes-on, changes-past, changes-out}
+use Rattle.list.specs.laws.Loop.{Underway, loop-begins, loop-ends}
 use Rattle.list.specs.Play.{playList}
-use Rattle.play.specs.Changes.{headOf, worldOf, changed}
+use Rattle.play.specs.laws.Changes.{headOf, worldOf, changed}
 use denote.Ref.{now}
 use lib.ListN.{length}
 use mathlib.Core.Path.{_≡_, refl}

@@ -1,5 +1,5 @@
 use native.Mathlib.Omega.{arith}
-use Rattle.play.specs.CallLaws.{acts-refused, acts-named, acts-unnamed}
+use Rattle.play.specs.laws.CallLaws.{acts-refused, acts-named, acts-unnamed}
 use Rattle.command.specs.Commands.{refusalOf}
 use denote.Ref.{now}
 use borrow.Author.Needs.{needs}

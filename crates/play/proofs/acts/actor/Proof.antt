@@ -1,5 +1,5 @@
 use borrow.Author.Tests.{lt-ltb, le-ltb}
-use Rattle.play.specs.Changes.{actor}
+use Rattle.play.specs.laws.Changes.{actor}
 use borrow.Author.Needs.{needs}
 use Rattle.play.proofs.acts.actor.Statement.{statement}
 use Rattle.play.proofs.acts.actor.Tie as tie

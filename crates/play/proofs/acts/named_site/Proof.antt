@@ -1,4 +1,4 @@
-use Rattle.play.specs.Changes.{namedSite}
+use Rattle.play.specs.laws.Changes.{namedSite}
 use borrow.Author.Needs.{needs}
 use Rattle.play.proofs.acts.named_site.Statement.{statement}
 use Rattle.play.proofs.acts.named_site.Tie as tie

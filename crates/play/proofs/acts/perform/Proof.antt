@@ -1,5 +1,5 @@
 use Rattle.play.specs.Commands.{perform}
-use Rattle.play.specs.Changes.{namedSite}
+use Rattle.play.specs.laws.Changes.{namedSite}
 use borrow.Author.Needs.{needs}
 use Rattle.play.proofs.acts.perform.Statement.{statement}
 use Rattle.play.proofs.acts.perform.Tie as tie

@@ -1,5 +1,5 @@
 use mathlib.Core.Path.{refl}
-use Rattle.play.specs.Changes.{headOf}
+use Rattle.play.specs.laws.Changes.{headOf}
 use Rattle.play.proofs.apart.head_of.Statement.{statement}
 use Rattle.play.proofs.apart.head_of.Tie as tie
 use Rattle.play.proofs.apart.head_of.Reads as reads

@@ -1,5 +1,5 @@
 use mathlib.Core.Path.{refl}
-use Rattle.play.specs.Changes.{worldOf}
+use Rattle.play.specs.laws.Changes.{worldOf}
 use Rattle.play.proofs.apart.world_of.Statement.{statement}
 use Rattle.play.proofs.apart.world_of.Tie as tie
 use Rattle.play.proofs.apart.world_of.Reads as reads

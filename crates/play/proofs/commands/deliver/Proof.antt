@@ -1,8 +1,8 @@
 use borrow.Author.Tests.{lt-ltb, le-ltb}
 use denote.Ref.{now}
-use Rattle.play.specs.CallLaws.{refused-acts}
+use Rattle.play.specs.laws.CallLaws.{refused-acts}
 use Rattle.play.specs.Commands.{deliverCall}
-use Rattle.play.specs.Changes.{Acts, worldOf}
+use Rattle.play.specs.laws.Changes.{Acts, worldOf}
 use borrow.Author.Needs.{needs}
 use Rattle.play.proofs.commands.deliver.Statement.{statement}
 use Rattle.play.proofs.commands.deliver.Tie as tie

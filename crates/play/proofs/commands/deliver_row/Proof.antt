@@ -1,11 +1,11 @@
-use Rattle.row.specs.KnownLaws.{known-sender}
+use Rattle.row.specs.laws.KnownLaws.{known-sender}
 use mathlib.Core.Path.{sym, _∙_}
 use Rattle.world.specs.Worlds.{isWilling}
 use Rattle.site.specs.Rules.{deliver}
 use denote.Ref.{now}
-use Rattle.play.specs.CallLaws.{refused-acts}
+use Rattle.play.specs.laws.CallLaws.{refused-acts}
 use Rattle.play.specs.Commands.{deliverRow}
-use Rattle.play.specs.Changes.{Acts, worldOf}
+use Rattle.play.specs.laws.Changes.{Acts, worldOf}
 use borrow.Author.Needs.{needs}
 use Rattle.play.proofs.commands.deliver_row.Statement.{statement}
 use Rattle.play.proofs.commands.deliver_row.Tie as tie

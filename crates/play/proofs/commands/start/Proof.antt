@@ -1,9 +1,9 @@
 use Rattle.world.specs.Worlds.{isWilling}
 use Rattle.site.specs.Rules.{start}
 use denote.Ref.{now}
-use Rattle.play.specs.CallLaws.{refused-acts}
+use Rattle.play.specs.laws.CallLaws.{refused-acts}
 use Rattle.play.specs.Commands.{startCall}
-use Rattle.play.specs.Changes.{Acts, worldOf}
+use Rattle.play.specs.laws.Changes.{Acts, worldOf}
 use borrow.Author.Needs.{needs}
 use Rattle.play.proofs.commands.start.Statement.{statement}
 use Rattle.play.proofs.commands.start.Tie as tie

@@ -1,9 +1,9 @@
 use Rattle.site.specs.Rules.{timeout}
 use denote.Ref.{now}
-use Rattle.play.specs.CallLaws.{refused-acts}
+use Rattle.play.specs.laws.CallLaws.{refused-acts}
 use borrow.Author.Tests.{lt-ltb}
 use Rattle.play.specs.Commands.{timeoutCall}
-use Rattle.play.specs.Changes.{Acts, worldOf}
+use Rattle.play.specs.laws.Changes.{Acts, worldOf}
 use borrow.Author.Needs.{needs}
 use Rattle.play.proofs.commands.timeout.Statement.{statement}
 use Rattle.play.proofs.commands.timeout.Tie as tie

@@ -1,9 +1,9 @@
 use denote.Ref.{now}
-use Rattle.play.specs.CallLaws.{refused-acts}
+use Rattle.play.specs.laws.CallLaws.{refused-acts}
 use Rattle.world.specs.Worlds.{withSite, withRows}
 use borrow.Author.Tests.{lt-ltb, le-ltb, eq-eqb, ne-eqb}
 use Rattle.play.specs.Calls.{enter, enterSilent, enterRow, playedOf}
-use Rattle.play.specs.Changes.{Acts, changed, worldOf}
+use Rattle.play.specs.laws.Changes.{Acts, changed, worldOf}
 use borrow.Author.Needs.{needs}
 use Rattle.play.proofs.enter.enter.Statement.{statement}
 use Rattle.play.proofs.enter.enter.Tie as tie

@@ -1,5 +1,5 @@
 use mathlib.Core.Path.{refl}
-use Rattle.play.specs.Changes.{refusedChange}
+use Rattle.play.specs.laws.Changes.{refusedChange}
 use Rattle.play.proofs.enter.refused.Statement.{statement}
 use Rattle.play.proofs.enter.refused.Tie as tie
 use Rattle.play.proofs.enter.refused.Reads as reads

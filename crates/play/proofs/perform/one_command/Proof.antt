@@ -1,6 +1,6 @@
 use mathlib.Core.Path.{sym, _∙_}
 use denote.Ref.{now}
-use Rattle.play.specs.CallLaws.{ready}
+use Rattle.play.specs.laws.CallLaws.{ready}
 use borrow.Author.Tests.{le-ltb}
 use borrow.Author.Tests.{lt-ltb}
 use Rattle.play.specs.Commands.{oneCommand}

@@ -1,7 +1,7 @@
-use Rattle.play.specs.Changes.{headOf, worldOf, changed}
+use Rattle.play.specs.laws.Changes.{headOf, worldOf, changed}
 use native.Mathlib.Omega.{arith}
 use denote.Ref.{now}
-use Rattle.play.specs.CallLaws.{acts-played}
+use Rattle.play.specs.laws.CallLaws.{acts-played}
 use borrow.Author.Needs.{needs}
 use Rattle.play.proofs.perform.play_command.Statement.{statement}
 use Rattle.play.proofs.perform.play_command.Tie as tie

@@ -3,7 +3,7 @@ use native.Mathlib.Omega.{arith}
 use native.Mathlib.Nat.{zero-add}
 use mathlib.Core.Path.{ap, sym, _∙_}
 use Rattle.player.specs.Shown.{shownBuffer, shownLength}
-use Rattle.player.specs.ShownLaws.{header-small}
+use Rattle.player.specs.laws.ShownLaws.{header-small}
 use Rattle.player.proofs.show.show.Statement.{statement}
 use Rattle.player.proofs.show.show.Tie as tie
 use Rattle.player.proofs.show.show.Reads as reads

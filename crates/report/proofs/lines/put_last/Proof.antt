@@ -1,8 +1,8 @@
 use borrow.Author.Needs.{needs}
 use native.Mathlib.Omega.{arith}
 use Rattle.text.specs.Text.{text, named}
-use Rattle.text.specs.Written.{joined}
-use Rattle.report.specs.LineLaws.{last-end, last-refused}
+use Rattle.text.specs.laws.Written.{joined}
+use Rattle.report.specs.laws.LineLaws.{last-end, last-refused}
 use Rattle.report.proofs.lines.put_last.Statement.{statement}
 use Rattle.report.proofs.lines.put_last.Tie as tie
 use Rattle.report.proofs.lines.put_last.Reads as reads

@@ -1,7 +1,7 @@
 use borrow.Author.Needs.{needs}
 use native.Mathlib.Omega.{arith}
 use Rattle.text.specs.Text.{text}
-use Rattle.text.specs.Written.{joined}
+use Rattle.text.specs.laws.Written.{joined}
 use Rattle.report.specs.Lines.{siteLine}
 use Rattle.report.proofs.lines.put_site.Statement.{statement}
 use Rattle.report.proofs.lines.put_site.Tie as tie

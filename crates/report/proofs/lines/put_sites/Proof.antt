@@ -4,9 +4,9 @@ use native.Mathlib.Numerals.{add-one}
 use Prim.Native.Nat.{ℕ, _+_, _*_, _≤_, _-_}
 use mathlib.Core.Path.{_≡_}
 use lib.ListN.{length}
-use Rattle.text.specs.Written.{Written, joined, nothing}
+use Rattle.text.specs.laws.Written.{Written, joined, nothing}
 use Rattle.report.specs.Lines.{siteLines}
-use Rattle.report.specs.LineLaws.{SmallSizes, small-sizes, site-codes}
+use Rattle.report.specs.laws.LineLaws.{SmallSizes, small-sizes, site-codes}
 use Rattle.report.proofs.lines.put_sites.Statement.{statement}
 use Rattle.report.proofs.lines.put_sites.Tie as tie
 use Rattle.report.proofs.lines.put_sites.Reads as reads

@@ -1,6 +1,6 @@
 use borrow.Author.Needs.{needs}
 use native.Mathlib.Omega.{arith}
-use Rattle.text.specs.Written.{joined}
+use Rattle.text.specs.laws.Written.{joined}
 use Rattle.report.proofs.lines.put_standing.Statement.{statement}
 use Rattle.report.proofs.lines.put_standing.Tie as tie
 use Rattle.report.proofs.lines.put_standing.Reads as reads

@@ -4,9 +4,9 @@ use native.Mathlib.Numerals.{add-one}
 use Prim.Native.Nat.{ℕ, _+_, _≤_, _-_}
 use mathlib.Core.Path.{_≡_}
 use lib.ListN.{length}
-use Rattle.text.specs.Written.{Written, joined, nothing}
+use Rattle.text.specs.laws.Written.{Written, joined, nothing}
 use Rattle.report.specs.Lines.{codeDigits}
-use Rattle.report.specs.LineLaws.{valid-code}
+use Rattle.report.specs.laws.LineLaws.{valid-code}
 use Rattle.report.proofs.log.put_codes.Statement.{statement}
 use Rattle.report.proofs.log.put_codes.Tie as tie
 use Rattle.report.proofs.log.put_codes.Reads as reads

@@ -1,6 +1,6 @@
 use borrow.Author.Needs.{needs}
 use native.Mathlib.Omega.{arith}
-use Rattle.text.specs.Written.{joined}
+use Rattle.text.specs.laws.Written.{joined}
 use Rattle.report.specs.Lines.{logLetters}
 use Rattle.report.proofs.log.put_log.Statement.{statement}
 use Rattle.report.proofs.log.put_log.Tie as tie

@@ -3,7 +3,7 @@ use borrow.Author.Tests.{not-true, not-false}
 use native.Mathlib.Omega.{arith}
 use mathlib.Core.Path.{sym, _∙_}
 use Rattle.report.specs.Report.{untouched}
-use Rattle.report.specs.ReportLaws.{accepted, report-refused, report-short, report-written}
+use Rattle.report.specs.laws.ReportLaws.{accepted, report-refused, report-short, report-written}
 use Rattle.report.proofs.write.write_report.Statement.{statement}
 use Rattle.report.proofs.write.write_report.Tie as tie
 use Rattle.report.proofs.write.write_report.Reads as reads

@@ -1,8 +1,8 @@
 use borrow.Author.Needs.{needs}
 use native.Mathlib.Omega.{arith}
-use Rattle.text.specs.Written.{joined}
+use Rattle.text.specs.laws.Written.{joined}
 use Rattle.report.specs.Report.{reportText}
-use Rattle.report.specs.ReportLaws.{ReportParts, report-parts}
+use Rattle.report.specs.laws.ReportLaws.{ReportParts, report-parts}
 use Rattle.report.proofs.write.write_text.Statement.{statement}
 use Rattle.report.proofs.write.write_text.Tie as tie
 use Rattle.report.proofs.write.write_text.Reads as reads

@@ -1,7 +1,7 @@
 use borrow.Author.Needs.{needs}
 use native.Mathlib.Omega.{arith}
 use Rattle.row.specs.Bits.{onlySite}
-use Rattle.row.specs.BitLaws.{one-shifted}
+use Rattle.row.specs.laws.BitLaws.{one-shifted}
 use Rattle.row.proofs.bits.only_site.Statement.{statement}
 use Rattle.row.proofs.bits.only_site.Tie as tie
 use Rattle.row.proofs.bits.only_site.Reads as reads

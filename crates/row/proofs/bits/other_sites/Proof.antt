@@ -2,7 +2,7 @@ use borrow.Author.Needs.{needs}
 use native.Mathlib.Omega.{arith}
 use lib.Pow.{pow-pos}
 use Rattle.row.specs.Bits.{onlySite, otherSites}
-use Rattle.row.specs.BitLaws.{one-of}
+use Rattle.row.specs.laws.BitLaws.{one-of}
 use Rattle.row.proofs.bits.other_sites.Statement.{statement}
 use Rattle.row.proofs.bits.other_sites.Tie as tie
 use Rattle.row.proofs.bits.other_sites.Reads as reads

@@ -1,5 +1,5 @@
 use borrow.Author.Needs.{needs}
-use Rattle.choice.specs.Choice.{tests}
+use Rattle.choice.specs.laws.ChoiceLaws.{tests}
 use Rattle.row.proofs.known.known_through.Statement.{statement}
 use Rattle.row.proofs.known.known_through.Tie as tie
 use Rattle.row.proofs.known.known_through.Reads as reads

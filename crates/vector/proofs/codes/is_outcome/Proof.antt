@@ -1,5 +1,5 @@
 use borrow.Author.Needs.{needs}
-use Rattle.choice.specs.Choice.{tests}
+use Rattle.choice.specs.laws.ChoiceLaws.{tests}
 use Rattle.vector.specs.Codes.{isOutcome}
 use Rattle.vector.proofs.codes.is_outcome.Statement.{statement}
 use Rattle.vector.proofs.codes.is_outcome.Tie as tie

@@ -1,5 +1,5 @@
 use borrow.Author.Needs.{needs}
-use Rattle.choice.specs.Choice.{tests}
+use Rattle.choice.specs.laws.ChoiceLaws.{tests}
 use Rattle.vector.specs.Codes.{level}
 use Rattle.vector.proofs.codes.level.Statement.{statement}
 use Rattle.vector.proofs.codes.level.Tie as tie

@@ -1,5 +1,5 @@
 use borrow.Author.Needs.{needs}
-use Rattle.choice.specs.Choice.{tests}
+use Rattle.choice.specs.laws.ChoiceLaws.{tests}
 use Rattle.vector.specs.Vector.{entryWeight}
 use Rattle.vector.proofs.vector.entry_weight.Statement.{statement}
 use Rattle.vector.proofs.vector.entry_weight.Tie as tie

@@ -4,7 +4,7 @@ use native.Mathlib.Numerals.{add-one}
 use Prim.Native.Nat.{ℕ, _≤_, _-_}
 use mathlib.Core.Path.{_≡_}
 use Rattle.vector.specs.Vector.{merge}
-use Rattle.vector.specs.VectorLaws.{merge-on, merge-put-back}
+use Rattle.vector.specs.laws.VectorLaws.{merge-on, merge-put-back}
 use Rattle.vector.proofs.vector.merge.Statement.{statement}
 use Rattle.vector.proofs.vector.merge.Tie as tie
 use Rattle.vector.proofs.vector.merge.Reads as reads

@@ -2,7 +2,7 @@ use borrow.Author.Needs.{needs}
 use borrow.Author.Tests.{eq-eqb, ne-eqb}
 use mathlib.Core.Path.{sym, _∙_}
 use Rattle.world.specs.Worlds.{freshWorld}
-use Rattle.world.specs.SizesLaws.{sized}
+use Rattle.world.specs.laws.SizesLaws.{sized}
 use Rattle.world.proofs.World.fresh.Statement.{statement}
 use Rattle.world.proofs.World.fresh.Tie as tie
 use Rattle.world.proofs.World.fresh.Reads as reads

@@ -2,7 +2,7 @@ use borrow.Author.Needs.{needs}
 use native.Mathlib.Omega.{arith}
 use Prim.Native.Nat.{_<_}
 use lib.ListN.{length, length-map}
-use Rattle.world.specs.PartLaws.{siteOf-within}
+use Rattle.world.specs.laws.PartLaws.{siteOf-within}
 use Rattle.world.proofs.World.site.Statement.{statement}
 use Rattle.world.proofs.World.site.Tie as tie
 use Rattle.world.proofs.World.site.Reads as reads

@@ -2,7 +2,7 @@ use borrow.Author.Needs.{needs}
 use borrow.Author.Tests.{eq-eqb, ne-eqb, le-leb, lt-leb}
 use mathlib.Core.Path.{sym, _∙_}
 use Rattle.world.specs.Valid.{validWorld}
-use Rattle.world.specs.SizesLaws.{sized}
+use Rattle.world.specs.laws.SizesLaws.{sized}
 use Rattle.world.proofs.World.valid.Statement.{statement}
 use Rattle.world.proofs.World.valid.Tie as tie
 use Rattle.world.proofs.World.valid.Reads as reads

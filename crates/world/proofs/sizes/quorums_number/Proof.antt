@@ -1,7 +1,7 @@
 use borrow.Author.Needs.{needs}
 use borrow.Author.Tests.{le-leb, lt-leb}
 use Rattle.row.specs.Bits.{onlySite}
-use Rattle.choice.specs.Choice.{tests}
+use Rattle.choice.specs.laws.ChoiceLaws.{tests}
 use Rattle.world.specs.Sizes.{quorumsNumber}
 use Rattle.world.proofs.sizes.quorums_number.Statement.{statement}
 use Rattle.world.proofs.sizes.quorums_number.Tie as tie

@@ -1,5 +1,5 @@
 use borrow.Author.Needs.{needs}
-use Rattle.choice.specs.Choice.{tests}
+use Rattle.choice.specs.laws.ChoiceLaws.{tests}
 use Rattle.world.specs.Sizes.{sizesNumber}
 use Rattle.world.proofs.sizes.sizes_number.Statement.{statement}
 use Rattle.world.proofs.sizes.sizes_number.Tie as tie

@@ -1,5 +1,5 @@
 use borrow.Author.Needs.{needs}
-use Rattle.world.specs.PartLaws.{validSite-by}
+use Rattle.world.specs.laws.PartLaws.{validSite-by}
 use Rattle.world.proofs.valid.valid_site.Statement.{statement}
 use Rattle.world.proofs.valid.valid_site.Tie as tie
 use Rattle.world.proofs.valid.valid_site.Reads as reads

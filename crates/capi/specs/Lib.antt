@@ -1,4 +1,0 @@
-pub mod Calls
-pub mod CallLaws
-pub mod Crossing
-pub mod CrossingLaws

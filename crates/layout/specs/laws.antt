@@ -1,0 +1,3 @@
+pub mod NumberLaws
+pub mod SiteLaws
+pub mod LayoutLaws

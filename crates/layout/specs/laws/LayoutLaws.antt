@@ -1,0 +1,324 @@
+-- THE ROUND TRIPS: a world written and read is the same world; bytes inside the layout, read and written again, are the same bytes.
+use Prim.Native.Nat.{ℕ, zero, suc, _+_, _%_, _≤_, _<_}
+use mathlib.Core.Bool.{true, false}
+use mathlib.Core.List.{List}
+use mathlib.Core.Path.{_≡_, refl, sym, _∙_}
+use Rattle.row.specs.laws.RowLaws.{codesFrom-length}
+use native.Mathlib.Nat.{add-zero, mod-eq-of-lt}
+use native.Mathlib.Omega.{arith}
+use lib.Dec.{eqb}
+use lib.ListN.{length, getD, length-set}
+use lib.Seq.{ext-getD}
+use borrow.Author.Tests.{eqb-true, eq-eqb}
+use Rattle.choice.specs.Choice.{both}
+use Rattle.choice.specs.laws.ChoiceLaws.{both-on, both-first, both-second, set-ind}
+use Rattle.choice.specs.laws.Cases.{by-equal}
+use Rattle.site.specs.declared.Site.{Site}
+use Rattle.site.specs.Fields.{blankSite}
+use Rattle.world.specs.declared.World.{World}
+use Rattle.world.specs.Worlds.{downSites, siteOf}
+use Rattle.layout.specs.Numbers.{shifted, putNumber, wordAt}
+use Rattle.layout.specs.laws.NumberLaws.{putNumber-length, putNumber-else, putNumber-at, putNumber-same, word-written, word-same, word-else}
+use Rattle.layout.specs.Layout.{sitePlace, putHead, putSite, putSites, putWorld, siteAt, sitesFrom, worldAt, atMost, siteInLayout, sitesInLayout, inLayout, worldBytes}
+use Rattle.layout.specs.laws.SiteLaws.{putSite-length, putSite-else, siteAt-same, site-read-back, zeros-held, site-written-back, most-all, zero-at, siteInLayout-same, site-inside}
+
+-- what the bytes can hold: sixteen sites with vectors of sixteen codes, and numbers that fit their fields
+pub record Fits (w : World) : Type 0 where
+  pub sites : length (w .sites) ≡ 16
+  pub codes : (j : ℕ) → j < 16 → length (siteOf w j .codes) ≡ 16
+  pub joined : (j : ℕ) → j < 16 → length (siteOf w j .joined) ≡ 16
+  pub n-fits : w .n < 256
+  pub commit-fits : w .commit .0 < 65536
+  pub abort-fits : w .abort .0 < 65536
+  pub willing-fits : w .willing < 65536
+  pub rows-fit : w .rows < 65536
+
+-- the sites written
+
+pub putSites-length : (k : ℕ) (b : List ℕ) (w : World) → length (putSites k b w) ≡ length b
+unfolding putSites
+putSites-length zero b w = refl
+putSites-length (suc k) b w = putSite-length (putSites k b w) (sitePlace k) (siteOf w k) ∙ putSites-length k b w
+
+-- the head lies before the sites
+putSites-head : (k : ℕ) (b : List ℕ) (w : World) (p : ℕ) → p < 16 → getD (putSites k b w) p 0 ≡ getD b p 0
+unfolding putSites sitePlace
+putSites-head zero b w p h = refl
+putSites-head (suc k) b w p h =
+    putSite-else (putSites k b w) (sitePlace k) (siteOf w k) p (λ i l e. omega arith) ∙ putSites-head k b w p h
+
+putSites-word : (b : List ℕ) (w : World) (p : ℕ) → p + 1 < 16 → wordAt (putSites 16 b w) p ≡ wordAt b p
+putSites-word b w p h =
+    word-same (putSites 16 b w) b p (putSites-head 16 b w p (omega arith)) (putSites-head 16 b w (p + 1) h)
+
+-- each site reads back
+putSites-at :
+    (k : ℕ) (b : List ℕ) (w : World) (i : ℕ) → Fits w → i < k → k ≤ 16 → 656 ≤ length b →
+    siteAt (putSites k b w) (sitePlace i) ≡ siteOf w i
+unfolding putSites sitePlace
+putSites-at zero b w i f h small room = absurd (omega arith)
+putSites-at (suc k) b w i f h small room =
+    by-equal i k
+    (λ e.
+    rw e
+    (site-read-back (putSites k b w) (sitePlace k) (siteOf w k) (rw putSites-length (omega arith)) (f .codes k (omega arith))
+    (f .joined k (omega arith))))
+    (λ e.
+    siteAt-same (putSite (putSites k b w) (sitePlace k) (siteOf w k)) (putSites k b w) (sitePlace i)
+    (λ j l. putSite-else (putSites k b w) (sitePlace k) (siteOf w k) (sitePlace i + j) (λ m n q. e (omega arith)))
+    ∙ putSites-at k b w i f (omega arith) (omega arith) room)
+
+-- the sites read
+
+sitesFrom-length : (k : ℕ) (b : List ℕ) → length (sitesFrom k b) ≡ 16
+unfolding sitesFrom downSites
+sitesFrom-length zero b = refl
+sitesFrom-length (suc k) b = simp length-set (sitesFrom-length k b)
+
+sitesFrom-at :
+    (k : ℕ) (b : List ℕ) (i : ℕ) (d : Site) → i < k → k ≤ 16 → getD (sitesFrom k b) i d ≡ siteAt b (sitePlace i)
+unfolding sitesFrom
+sitesFrom-at zero b i d h small = absurd (omega arith)
+sitesFrom-at (suc k) b i d h small =
+    set-ind (λ s. s ≡ siteAt b (sitePlace i)) (sitesFrom k b) k i (siteAt b (sitePlace k)) d
+    (rw sitesFrom-length (omega arith))
+    (λ e. rw e)
+    (λ e. sitesFrom-at k b i d (omega arith) (omega arith))
+
+-- the head written
+
+pub putHead-length : (b : List ℕ) (w : World) → length (putHead b w) ≡ length b
+unfolding putHead
+putHead-length b w = simp putNumber-length
+
+module _ (b : List ℕ) (w : World) (room : 656 ≤ length b) where
+  head-n : w .n < 256 → getD (putHead b w) 1 0 ≡ w .n
+  unfolding putHead shifted
+  head-n small =
+      putNumber-else 6 _ 10 0 1 (λ i l e. omega arith)
+      ∙ putNumber-else 2 _ 8 (w .rows) 1 (λ i l e. omega arith)
+      ∙ putNumber-else 2 _ 6 (w .willing) 1 (λ i l e. omega arith)
+      ∙ putNumber-else 2 _ 4 (w .abort .0) 1 (λ i l e. omega arith)
+      ∙ putNumber-else 2 _ 2 (w .commit .0) 1 (λ i l e. omega arith)
+      ∙ putNumber-at 1 (putNumber 1 b 0 1) 1 (w .n) 0 (omega arith) (rw putNumber-length (omega arith))
+      ∙ mod-eq-of-lt small
+
+  head-commit : w .commit .0 < 65536 → wordAt (putHead b w) 2 ≡ w .commit .0
+  unfolding putHead
+  head-commit small =
+      word-else 6 _ 10 0 2 (λ i l e. omega arith) (λ i l e. omega arith)
+      ∙ word-else 2 _ 8 (w .rows) 2 (λ i l e. omega arith) (λ i l e. omega arith)
+      ∙ word-else 2 _ 6 (w .willing) 2 (λ i l e. omega arith) (λ i l e. omega arith)
+      ∙ word-else 2 _ 4 (w .abort .0) 2 (λ i l e. omega arith) (λ i l e. omega arith)
+      ∙ word-written (putNumber 1 (putNumber 1 b 0 1) 1 (w .n)) 2 (w .commit .0) (simp putNumber-length (omega arith)) small
+
+  head-abort : w .abort .0 < 65536 → wordAt (putHead b w) 4 ≡ w .abort .0
+  unfolding putHead
+  head-abort small =
+      word-else 6 _ 10 0 4 (λ i l e. omega arith) (λ i l e. omega arith)
+      ∙ word-else 2 _ 8 (w .rows) 4 (λ i l e. omega arith) (λ i l e. omega arith)
+      ∙ word-else 2 _ 6 (w .willing) 4 (λ i l e. omega arith) (λ i l e. omega arith)
+      ∙ word-written (putNumber 2 (putNumber 1 (putNumber 1 b 0 1) 1 (w .n)) 2 (w .commit .0)) 4 (w .abort .0)
+      (simp putNumber-length (omega arith)) small
+
+  head-willing : w .willing < 65536 → wordAt (putHead b w) 6 ≡ w .willing
+  unfolding putHead
+  head-willing small =
+      word-else 6 _ 10 0 6 (λ i l e. omega arith) (λ i l e. omega arith)
+      ∙ word-else 2 _ 8 (w .rows) 6 (λ i l e. omega arith) (λ i l e. omega arith)
+      ∙ word-written
+      (putNumber 2 (putNumber 2 (putNumber 1 (putNumber 1 b 0 1) 1 (w .n)) 2 (w .commit .0)) 4 (w .abort .0)) 6 (w .willing)
+      (simp putNumber-length (omega arith)) small
+
+  head-rows : w .rows < 65536 → wordAt (putHead b w) 8 ≡ w .rows
+  unfolding putHead
+  head-rows small =
+      word-else 6 _ 10 0 8 (λ i l e. omega arith) (λ i l e. omega arith)
+      ∙ word-written
+      (putNumber 2 (putNumber 2 (putNumber 2 (putNumber 1 (putNumber 1 b 0 1) 1 (w .n)) 2 (w .commit .0)) 4 (w .abort .0)) 6
+      (w .willing))
+      8 (w .rows) (simp putNumber-length (omega arith)) small
+
+world-same :
+    (v w : World) → v .sites ≡ w .sites → v .n ≡ w .n → v .commit .0 ≡ w .commit .0 → v .abort .0 ≡ w .abort .0 →
+    v .willing ≡ w .willing → v .rows ≡ w .rows → v ≡ w
+world-same v w a b c d e f =
+    let z : _≡_ {A = World}
+    (record {
+      sites = v .sites;
+      n = v .n;
+      commit = record { 0 = v .commit .0 };
+      abort = record { 0 = v .abort .0 };
+      willing = v .willing;
+      rows = v .rows;
+    })
+    (record {
+      sites = w .sites;
+      n = w .n;
+      commit = record { 0 = w .commit .0 };
+      abort = record { 0 = w .abort .0 };
+      willing = w .willing;
+      rows = w .rows;
+    }) = cc in
+    z
+
+-- A WORLD WRITTEN AND READ
+pub world-read-back : (b : List ℕ) (w : World) → 656 ≤ length b → Fits w → worldAt (putWorld b w) ≡ w
+unfolding worldAt putWorld siteOf
+world-read-back b w room f =
+    let long : 656 ≤ length (putHead b w) = rw putHead-length room in
+    world-same (worldAt (putWorld b w)) w
+    (ext-getD (blankSite false) (sitesFrom 16 (putWorld b w)) (w .sites) (sitesFrom-length 16 (putWorld b w) ∙ sym (f .sites))
+    (λ i h.
+    let small : i < 16 = omega (arith, sitesFrom-length 16 (putWorld b w)) in
+    sitesFrom-at 16 (putWorld b w) i (blankSite false) small (omega arith)
+    ∙ putSites-at 16 (putHead b w) w i f small (omega arith) long))
+    (putSites-head 16 (putHead b w) w 1 (omega arith) ∙ head-n b w room (f .n-fits))
+    (putSites-word (putHead b w) w 2 (omega arith) ∙ head-commit b w room (f .commit-fits))
+    (putSites-word (putHead b w) w 4 (omega arith) ∙ head-abort b w room (f .abort-fits))
+    (putSites-word (putHead b w) w 6 (omega arith) ∙ head-willing b w room (f .willing-fits))
+    (putSites-word (putHead b w) w 8 (omega arith) ∙ head-rows b w room (f .rows-fit))
+
+-- bytes that are there already
+
+byte-held : (b : List ℕ) (at x : ℕ) → x % 256 ≡ getD b at 0 → putNumber 1 b at x ≡ b
+unfolding shifted
+byte-held b at x e =
+    putNumber-same 1 b at x (λ i h. let z : _≡_ {A = ℕ} i 0 = omega arith in rw (z, add-zero) e)
+
+word-held : (b : List ℕ) (at : ℕ) → ((i : ℕ) → getD b i 0 < 256) → putNumber 2 b at (wordAt b at) ≡ b
+unfolding shifted wordAt
+word-held b at small =
+    putNumber-same 2 b at (wordAt b at)
+    (λ i h.
+    by-equal i 0
+    (λ z. rw (z, add-zero) (omega (arith, small at, small (at + 1))))
+    (λ n.
+    let z : _≡_ {A = ℕ} i 1 = omega arith in
+    rw z (omega (arith, small at, small (at + 1)))))
+
+-- what the layout says of each part
+sites-each : (k : ℕ) (b : List ℕ) → sitesInLayout k b ≡ true → (i : ℕ) → i < k → siteInLayout b (sitePlace i) ≡ true
+unfolding sitesInLayout
+sites-each zero b e i h = absurd (omega arith)
+sites-each (suc k) b e i h =
+    by-equal i k (λ q. rw q (both-second (sitesInLayout k b) (siteInLayout b (sitePlace k)) e))
+    (λ q. sites-each k b (both-first (sitesInLayout k b) (siteInLayout b (sitePlace k)) e) i (omega arith))
+
+site-of : (k : ℕ) (b : List ℕ) → k < 16 → siteOf (worldAt b) k ≡ siteAt b (sitePlace k)
+unfolding siteOf worldAt
+site-of k b h = sitesFrom-at 16 b k (blankSite false) h (omega arith)
+
+sites-held : (k : ℕ) (b : List ℕ) → sitesInLayout 16 b ≡ true → k ≤ 16 → putSites k b (worldAt b) ≡ b
+unfolding putSites
+sites-held zero b e h = refl
+sites-held (suc k) b e h =
+    rw (sites-held k b e (omega arith), site-of k b (omega arith))
+    (site-written-back b (sitePlace k) (sites-each 16 b e k (omega arith)))
+
+head-held :
+    (b : List ℕ) → ((i : ℕ) → getD b i 0 < 256) → getD b 0 0 ≡ 1 → atMost 6 b 10 0 ≡ true → putHead b (worldAt b) ≡ b
+unfolding putHead worldAt
+head-held b small number zeros =
+    rw
+    (byte-held b 0 1 (sym number), byte-held b 1 (getD b 1 0) (mod-eq-of-lt (small 1)), word-held b 2 small, word-held b 4 small, word-held b 6 small, word-held b 8 small)
+    (zeros-held 6 b 10 zeros)
+
+-- BYTES READ AND WRITTEN: a byte is below 256
+pub bytes-written-back :
+    (b : List ℕ) → inLayout b ≡ true → ((i : ℕ) → getD b i 0 < 256) → putWorld b (worldAt b) ≡ b
+unfolding putWorld inLayout
+bytes-written-back b e small =
+    let rest : both (eqb (getD b 0 0) 1) (both (atMost 6 b 10 0) (sitesInLayout 16 b)) ≡ true =
+    both-second (eqb (length b) worldBytes) (both (eqb (getD b 0 0) 1) (both (atMost 6 b 10 0) (sitesInLayout 16 b))) e in
+    let parts : both (atMost 6 b 10 0) (sitesInLayout 16 b) ≡ true =
+    both-second (eqb (getD b 0 0) 1) (both (atMost 6 b 10 0) (sitesInLayout 16 b)) rest in
+    let number : getD b 0 0 ≡ 1 =
+    eqb-true (getD b 0 0) 1 (both-first (eqb (getD b 0 0) 1) (both (atMost 6 b 10 0) (sitesInLayout 16 b)) rest) in
+    rw (head-held b small number (both-first (atMost 6 b 10 0) (sitesInLayout 16 b) parts))
+    (sites-held 16 b (both-second (atMost 6 b 10 0) (sitesInLayout 16 b) parts) (omega arith))
+
+-- the head's first byte and its zeros
+
+head-number : (b : List ℕ) (w : World) → 656 ≤ length b → getD (putHead b w) 0 0 ≡ 1
+unfolding putHead shifted
+head-number b w room =
+    putNumber-else 6 _ 10 0 0 (λ i l e. omega arith)
+    ∙ putNumber-else 2 _ 8 (w .rows) 0 (λ i l e. omega arith)
+    ∙ putNumber-else 2 _ 6 (w .willing) 0 (λ i l e. omega arith)
+    ∙ putNumber-else 2 _ 4 (w .abort .0) 0 (λ i l e. omega arith)
+    ∙ putNumber-else 2 _ 2 (w .commit .0) 0 (λ i l e. omega arith)
+    ∙ putNumber-else 1 _ 1 (w .n) 0 (λ i l e. omega arith)
+    ∙ putNumber-at 1 b 0 1 0 (omega arith) (omega arith)
+
+head-zero : (b : List ℕ) (w : World) (i : ℕ) → 656 ≤ length b → i < 6 → getD (putHead b w) (10 + i) 0 ≡ 0
+unfolding putHead
+head-zero b w i room h =
+    zero-at 6
+    (putNumber 2
+    (putNumber 2
+    (putNumber 2 (putNumber 2 (putNumber 1 (putNumber 1 b 0 1) 1 (w .n)) 2 (w .commit .0)) 4 (w .abort .0)) 6 (w .willing))
+    8 (w .rows))
+    10 i h (simp putNumber-length (omega arith))
+
+sites-inside :
+    (k : ℕ) (b : List ℕ) (w : World) (i : ℕ) → i < k → k ≤ 16 → 656 ≤ length b →
+    siteInLayout (putSites k b w) (sitePlace i) ≡ true
+unfolding putSites sitePlace
+sites-inside zero b w i h small room = absurd (omega arith)
+sites-inside (suc k) b w i h small room =
+    by-equal i k
+    (λ e. rw e (site-inside (putSites k b w) (sitePlace k) (siteOf w k) (rw putSites-length (omega arith))))
+    (λ e.
+    siteInLayout-same (putSite (putSites k b w) (sitePlace k) (siteOf w k)) (putSites k b w) (sitePlace i)
+    (λ j l. putSite-else (putSites k b w) (sitePlace k) (siteOf w k) (sitePlace i + j) (λ m n q. e (omega arith)))
+    ∙ sites-inside k b w i (omega arith) (omega arith) room)
+
+sites-all : (k : ℕ) (b : List ℕ) → ((i : ℕ) → i < k → siteInLayout b (sitePlace i) ≡ true) → sitesInLayout k b ≡ true
+unfolding sitesInLayout
+sites-all zero b h = refl
+sites-all (suc k) b h =
+    both-on (sitesInLayout k b) (siteInLayout b (sitePlace k)) (sites-all k b (λ i l. h i (omega arith))) (h k (omega arith))
+
+-- EVERY WORLD WRITTEN IS INSIDE THE LAYOUT
+pub written-inside : (b : List ℕ) (w : World) → length b ≡ worldBytes → inLayout (putWorld b w) ≡ true
+unfolding inLayout putWorld
+written-inside b w same =
+    let room : 656 ≤ length b = omega arith in
+    let long : 656 ≤ length (putHead b w) = rw putHead-length room in
+    let size : length (putSites 16 (putHead b w) w) ≡ worldBytes = putSites-length 16 (putHead b w) w ∙ putHead-length b w ∙ same in
+    let number : getD (putSites 16 (putHead b w) w) 0 0 ≡ 1 =
+    putSites-head 16 (putHead b w) w 0 (omega arith) ∙ head-number b w room in
+    let zeros : atMost 6 (putSites 16 (putHead b w) w) 10 0 ≡ true =
+    most-all 6 (putSites 16 (putHead b w) w) 10 0
+    (λ i h.
+    let z : getD (putSites 16 (putHead b w) w) (10 + i) 0 ≡ 0 =
+    putSites-head 16 (putHead b w) w (10 + i) (omega arith) ∙ head-zero b w i room h in
+    omega arith) in
+    rw
+    (eq-eqb (length (putSites 16 (putHead b w) w)) worldBytes size, eq-eqb (getD (putSites 16 (putHead b w) w) 0 0) 1 number, zeros)
+    (sites-all 16 (putSites 16 (putHead b w) w) (λ i h. sites-inside 16 (putHead b w) w i h (omega arith) long))
+
+-- bytes inside the layout have a world's length
+pub inside-exact : (b : List ℕ) → inLayout b ≡ true → length b ≡ worldBytes
+unfolding inLayout
+inside-exact b e =
+    eqb-true (length b) worldBytes
+    (both-first (eqb (length b) worldBytes) (both (eqb (getD b 0 0) 1) (both (atMost 6 b 10 0) (sitesInLayout 16 b))) e)
+
+pub inside-length : (b : List ℕ) → inLayout b ≡ true → worldBytes ≤ length b
+inside-length b e = omega (arith, inside-exact b e)
+
+-- sixteen sites with two vectors of sixteen codes are read from any bytes
+
+pub read-sites : (b : List ℕ) → length (worldAt b .sites) ≡ 16
+unfolding worldAt
+read-sites b = sitesFrom-length 16 b
+
+pub read-codes : (b : List ℕ) (j : ℕ) → j < 16 → length (siteOf (worldAt b) j .codes) ≡ 16
+unfolding siteAt
+read-codes b j h = rw (site-of j b h) (codesFrom-length 16 b (sitePlace j + 8))
+
+pub read-joined : (b : List ℕ) (j : ℕ) → j < 16 → length (siteOf (worldAt b) j .joined) ≡ 16
+unfolding siteAt
+read-joined b j h = rw (site-of j b h) (codesFrom-length 16 b (sitePlace j + 24))

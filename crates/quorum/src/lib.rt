@@ -1,0 +1,116 @@
+// The calls offered to C, on byte slices and numbers. docs/LAYOUT.md has the bytes; include/quorum.h says how to call.
+ghost use mathlib.Core.Path.{_≡_};
+ghost use Rattle.quorum.specs.Calls.{unfitNumber, listCall, commandCall, reportCall};
+use world::World;
+
+// The length of every result buffer.
+const RESULT_BYTES: usize = 8;
+
+fn number_of(number: u8) -> u32
+    ensures { λ r. ⌜ r ≡ number ⌝ }
+{
+    number as u32
+}
+
+// For a store of so many bytes, where another buffer has not the length of the layout: 16, then 17.
+fn unfit_number(bytes: usize) -> u32
+    ensures { λ r. ⌜ r ≡ unfitNumber bytes ⌝ }
+{
+    if bytes < World::STORE_BYTES {
+        return 16;
+    }
+    17
+}
+
+// A whole list.
+#[no_mangle]
+pub extern "C" fn qc_play_list(
+    list: &[u8],
+    store: &mut [u8],
+    world: &mut [u8],
+    result: &mut [u8],
+) -> u32
+    ensures { λ r. ⌜ r ≡ listCall (now (list .entry)) (now (store .entry)) (now (world .entry)) (now (result .entry)) .number ⌝ }
+    ensures { λ _. ⌜ now (store .exit) ≡ listCall (now (list .entry)) (now (store .entry)) (now (world .entry)) (now (result .entry)) .store ⌝ }
+    ensures { λ _. ⌜ now (world .exit) ≡ listCall (now (list .entry)) (now (store .entry)) (now (world .entry)) (now (result .entry)) .world ⌝ }
+    ensures { λ _. ⌜ now (result .exit) ≡ listCall (now (list .entry)) (now (store .entry)) (now (world .entry)) (now (result .entry)) .result ⌝ }
+{
+    if world.len() != layout::WORLD_BYTES {
+        return unfit_number(store.len());
+    }
+    if result.len() != RESULT_BYTES {
+        return unfit_number(store.len());
+    }
+    let played = list::play_list(store, list);
+    let after = played.world;
+    layout::put_world(world, after);
+    layout::put_number(result, 0, 4, played.events);
+    layout::put_number(result, 4, 4, played.place);
+    number_of(played.number)
+}
+
+// One command.
+#[no_mangle]
+pub extern "C" fn qc_play_command(
+    world: &mut [u8],
+    store: &mut [u8],
+    list: &[u8],
+    at: usize,
+    result: &mut [u8],
+) -> u32
+    ensures { λ r. ⌜ r ≡ commandCall (now (world .entry)) (now (store .entry)) (now (list .entry)) at (now (result .entry)) .number ⌝ }
+    ensures { λ _. ⌜ now (store .exit) ≡ commandCall (now (world .entry)) (now (store .entry)) (now (list .entry)) at (now (result .entry)) .store ⌝ }
+    ensures { λ _. ⌜ now (world .exit) ≡ commandCall (now (world .entry)) (now (store .entry)) (now (list .entry)) at (now (result .entry)) .world ⌝ }
+    ensures { λ _. ⌜ now (result .exit) ≡ commandCall (now (world .entry)) (now (store .entry)) (now (list .entry)) at (now (result .entry)) .result ⌝ }
+{
+    if store.len() < World::STORE_BYTES {
+        return 16;
+    }
+    if result.len() != RESULT_BYTES {
+        return 17;
+    }
+    if !layout::in_layout(world) {
+        return 17;
+    }
+    let before = layout::world_at(world);
+    let played = play::one_command(before, store, list, at);
+    if played.number != 0 {
+        return number_of(played.number);
+    }
+    let after = played.world;
+    layout::put_world(world, after);
+    layout::put_number(result, 0, 8, played.place);
+    0
+}
+
+// The report.
+#[no_mangle]
+pub extern "C" fn qc_report(
+    world: &[u8],
+    events: usize,
+    number: u32,
+    place: usize,
+    buffer: &mut [u8],
+    result: &mut [u8],
+) -> u32
+    ensures { λ r. ⌜ r ≡ reportCall (now (world .entry)) events number place (now (buffer .entry)) (now (result .entry)) .number ⌝ }
+    ensures { λ _. ⌜ now (buffer .exit) ≡ reportCall (now (world .entry)) events number place (now (buffer .entry)) (now (result .entry)) .buffer ⌝ }
+    ensures { λ _. ⌜ now (result .exit) ≡ reportCall (now (world .entry)) events number place (now (buffer .entry)) (now (result .entry)) .result ⌝ }
+{
+    if result.len() != RESULT_BYTES {
+        return 17;
+    }
+    if !layout::in_layout(world) {
+        return 17;
+    }
+    if report::LAST_NUMBER < number as usize {
+        return 17;
+    }
+    let before = layout::world_at(world);
+    let reported = report::write_report(before, events, number as u8, place, buffer);
+    if reported.number != 0 {
+        return number_of(reported.number);
+    }
+    layout::put_number(result, 0, 8, reported.length);
+    0
+}

@@ -1,0 +1,99 @@
+-- The maker's world: the invariant holds of it with no record, or it is the world of zeros, which every call refuses.
+use Prim.Native.Nat.{ℕ, zero, suc, _≤_, _<_}
+use mathlib.Core.Bool.{Bool, true, false}
+use mathlib.Core.List.{List, []}
+use mathlib.Core.Path.{_≡_, refl, _∙_}
+use native.Mathlib.Omega.{arith}
+use lib.ListN.{length, getD, length-set, getD-replicate, length-replicate}
+use borrow.Author.Tests.{eq-eqb, ne-eqb}
+use Rattle.choice.specs.laws.ChoiceLaws.{set-ind}
+use Rattle.vector.specs.Vector.{siteWeight}
+use Rattle.site.specs.declared.Site.{Site}
+use Rattle.site.specs.Fields.{blankSite}
+use Rattle.world.specs.declared.World.{World}
+use Rattle.world.specs.Sizes.{sizesNumber}
+use Rattle.world.specs.Worlds.{downSites, zeroWorld, freshSites, freshWorld, siteOf}
+use Rattle.world.specs.Valid.{validWorld}
+use Rattle.safety.specs.Claims.{writtenAt}
+use Rattle.safety.specs.laws.Truth.{Terms, TrueHistory, TrueSite}
+use Rattle.safety.specs.laws.TruthLaws.{zero-true}
+use Rattle.safety.specs.laws.Invariant.{Invariant}
+
+-- the world of sizes that are not refused
+unfoldable pub newWorld : ℕ → ℕ → ℕ → ℕ → World
+newWorld n c a willing =
+    record {
+      sites = freshSites n;
+      n = n;
+      commit = record { 0 = c };
+      abort = record { 0 = a };
+      willing = willing;
+      rows = 0;
+    }
+
+pub fresh-new : (n c a willing : ℕ) → sizesNumber n c a willing ≡ 0 → freshWorld n c a willing ≡ newWorld n c a willing
+unfolding freshWorld newWorld
+fresh-new n c a willing e = rw (eq-eqb (sizesNumber n c a willing) 0 e)
+
+pub fresh-zero : (n c a willing : ℕ) → (sizesNumber n c a willing ≡ 0 → ⊥) → freshWorld n c a willing ≡ zeroWorld
+unfolding freshWorld
+fresh-zero n c a willing e = rw (ne-eqb (sizesNumber n c a willing) 0 e)
+
+-- the world of zeros does not pass 17
+pub zero-invalid : validWorld zeroWorld ≡ false
+unfolding validWorld zeroWorld sizesNumber
+zero-invalid = refl
+
+-- sixteen blank sites
+fresh-length : (k : ℕ) → length (freshSites k) ≡ 16
+unfolding freshSites downSites
+fresh-length zero = length-replicate 16 (blankSite false)
+fresh-length (suc k) = length-set (freshSites k) k (blankSite true) ∙ fresh-length k
+
+pub fresh-blank : (P : Site → Type 0) → P (blankSite true) → P (blankSite false) → (k j : ℕ) → k ≤ 16 → j < 16 →
+    P (getD (freshSites k) j (blankSite false))
+unfolding freshSites downSites
+fresh-blank P up down zero j few less = rw (getD-replicate 16 j (blankSite false) (blankSite false)) down
+fresh-blank P up down (suc k) j few less =
+    set-ind P (freshSites k) k j (blankSite true) (blankSite false) (omega (arith, fresh-length k)) (λ e. up)
+    (λ e. fresh-blank P up down k j (omega arith) less)
+
+blank-true : (n own : ℕ) (up : Bool) → n ≤ 16 → TrueSite n own [] (blankSite up)
+unfolding blankSite writtenAt
+blank-true n own up few =
+    record {
+      log = record { prepares = refl; commit-groups = refl; abort-groups = refl; commit-outcomes = refl; abort-outcomes = refl };
+      codes = zero-true n [] few;
+      joined = zero-true n [] few;
+    }
+
+-- nothing written is true
+empty-true : (t : Terms) → TrueHistory t []
+unfolding writtenAt
+empty-true t =
+    record {
+      each = λ j.
+          record {
+            below = λ code h. absurd (omega arith);
+            one-prepare = omega arith;
+            one-group = omega arith;
+            one-outcome = omega arith;
+            is-willing = λ h. absurd (omega arith);
+          };
+      commit-group = λ j h. absurd (omega arith);
+      commit-outcome = λ j h. absurd (omega arith);
+      abort-outcome = λ j h. absurd (omega arith);
+    }
+
+-- the invariant at the start
+pub new-invariant : (n c a willing : ℕ) (store : List ℕ) → n ≤ 16 → Invariant (newWorld n c a willing) store []
+unfolding newWorld siteOf
+new-invariant n c a willing store few =
+    record {
+      history = empty-true (record { n = n; weight = siteWeight; commit = c; abort = a; willing = willing });
+      sites = λ j less.
+          fresh-blank (TrueSite n j []) (blank-true n j true few) (blank-true n j false few) n j few (omega arith);
+      rows = λ k h. absurd (omega arith);
+      few = few;
+      sixteen = fresh-length n;
+    }

@@ -1,0 +1,123 @@
+-- The shape of worlds: sixteen sites with two vectors of sixteen codes, from the maker on.
+use Prim.Native.Nat.{ℕ, zero, suc, _≤_, _<_}
+use mathlib.Core.Bool.{Bool, true, false}
+use mathlib.Core.List.{List}
+use mathlib.Core.Path.{_≡_, refl, sym, subst, _∙_}
+use native.Mathlib.Omega.{arith}
+use lib.Dec.{eqb}
+use lib.ListN.{length, getD, length-set, getD-replicate}
+use borrow.Author.Tests.{eqb-true}
+use Rattle.choice.specs.laws.ChoiceLaws.{pick-ind, set-ind}
+use Rattle.vector.specs.laws.VectorLaws.{merge-length}
+use Rattle.site.specs.declared.Group.{Group}
+use Rattle.site.specs.declared.Group.the-variants as Group·
+use Rattle.site.specs.declared.Site.{Site}
+use Rattle.site.specs.Fields.{zeroVector, blankSite, withUp, withCoordinator, withPrepared, withGroup, withOutcome, withCodes}
+use Rattle.site.specs.Records.{withOwn, writePrepare, joinGroup, writeOutcome}
+use Rattle.site.specs.Rules.{Move, hear, keptVector}
+use Rattle.world.specs.declared.World.{World}
+use Rattle.world.specs.Sizes.{sizesNumber}
+use Rattle.world.specs.Worlds.{downSites, zeroWorld, freshSites, freshWorld, siteOf, withSite, withRows}
+use Rattle.play.specs.Calls.{Call, refuse, enterSilent, enterRow}
+use Rattle.play.specs.Commands.{oneCommand}
+use Rattle.safety.specs.Claims.{Shaped}
+use Rattle.safety.specs.laws.View.{Granted, Seen, as-refused, as-silent, as-row}
+use Rattle.safety.specs.laws.ViewLaws.{view}
+use Rattle.world.specs.laws.SizesLaws.{sized}
+use Rattle.world.specs.laws.WorldLaws.{valid-sized, put-ind}
+use Rattle.safety.specs.laws.Turns.{Steady, turn-keeps}
+
+-- a site with two vectors of sixteen codes
+pub record Long (s : Site) : Type 0 where
+  pub codes : length (s .codes) ≡ 16
+  pub joined : length (s .joined) ≡ 16
+
+pub long-of : (w : World) → Shaped w → (j : ℕ) → j < 16 → Long (siteOf w j)
+long-of w shaped j h = record { codes = shaped .codes j h; joined = shaped .joined j h }
+
+shaped-by : (w : World) → length (w .sites) ≡ 16 → ((j : ℕ) → j < 16 → Long (siteOf w j)) → Shaped w
+shaped-by w l h = record { sites = l; codes = λ j k. h j k .codes; joined = λ j k. h j k .joined }
+
+-- the maker
+
+long-blank : (b : Bool) → Long (blankSite b)
+unfolding blankSite zeroVector
+long-blank b = record { codes = refl; joined = refl }
+
+fresh-length : (k : ℕ) → length (freshSites k) ≡ 16
+unfolding freshSites downSites
+fresh-length zero = refl
+fresh-length (suc k) = simp length-set (fresh-length k)
+
+long-fresh : (k : ℕ) → k ≤ 16 → (j : ℕ) → j < 16 → Long (getD (freshSites k) j (blankSite false))
+unfolding freshSites downSites
+long-fresh zero h j l =
+    subst Long (sym (getD-replicate 16 j (blankSite false) (blankSite false) l)) (long-blank false)
+long-fresh (suc k) h j l =
+    set-ind Long (freshSites k) k j (blankSite true) (blankSite false) (rw fresh-length (omega arith)) (λ _. long-blank true)
+    (λ _. long-fresh k (omega arith) j l)
+
+pub shaped-fresh : (n c a willing : ℕ) → Shaped (freshWorld n c a willing)
+unfolding freshWorld zeroWorld siteOf freshSites
+shaped-fresh n c a willing =
+    let made : World =
+    record {
+      sites = freshSites n;
+      n = n;
+      commit = record { 0 = c };
+      abort = record { 0 = a };
+      willing = willing;
+      rows = 0;
+    } in
+    pick-ind Shaped (eqb (sizesNumber n c a willing) 0) made zeroWorld
+    (λ e. shaped-by made (fresh-length n)
+    (long-fresh n (sized n c a willing (eqb-true (sizesNumber n c a willing) 0 e) .high)))
+    (λ _. shaped-by zeroWorld (fresh-length 0) (long-fresh 0 (omega arith)))
+
+-- the rules
+
+pub kept-length : (g : Group) (v : List ℕ) → length v ≡ 16 → length (keptVector g v) ≡ 16
+unfolding keptVector zeroVector
+kept-length Group·.None v l = refl
+kept-length Group·.Commit v l = l
+kept-length Group·.Abort v l = l
+
+pub long-steady : (own n : ℕ) → Steady own n (λ s H. Long s)
+unfolding withUp withCoordinator withPrepared withGroup withOutcome withCodes withOwn writePrepare joinGroup writeOutcome hear
+long-steady own n =
+    record {
+      up = λ b s H q. record { codes = q .codes; joined = q .joined };
+      role = λ b s H q. record { codes = q .codes; joined = q .joined };
+      prepares = λ s H e q. record { codes = simp length-set (q .codes); joined = q .joined };
+      joins = λ k s H e q. record { codes = simp length-set (q .codes); joined = simp length-set (q .codes) };
+      decides = λ k s H q. record { codes = simp length-set (q .codes); joined = q .joined };
+      hears = λ said s H e q. record { codes = merge-length n own said (s .codes) ∙ q .codes; joined = q .joined };
+      forgets = λ s H q. record { codes = simp length-set (kept-length (s .group) (s .joined) (q .joined)); joined = q .joined };
+    }
+
+shaped-put : (w : World) (own : ℕ) (s : Site) → Shaped w → own < 16 → Long s → Shaped (withSite own s w)
+unfolding withSite
+shaped-put w own s shaped h long =
+    shaped-by (withSite own s w) (simp length-set (shaped .sites))
+    (λ j l. put-ind Long w own s j (omega arith) (λ _. long) (λ _. long-of w shaped j l))
+
+-- the site that has moved
+pub long-moved :
+    (w : World) (store : List ℕ) (own : ℕ) (m : Move) → Shaped w → Granted w store own m → Long (m .step .site)
+long-moved w store own m shaped g =
+    turn-keeps w store own m (λ s H. Long s) (long-steady own (w .n)) (g .turn)
+    (long-of w shaped own (omega (arith, valid-sized w (g .valid))))
+
+seen-shaped : (w : World) (store : List ℕ) (c : Call) → Shaped w → Seen w store c → Shaped (c .world)
+unfolding refuse enterSilent enterRow withRows siteOf
+seen-shaped w store c shaped (as-refused number place h) = shaped
+seen-shaped w store c shaped (as-silent next own m g z) =
+    shaped-put w own (m .step .site) shaped (omega (arith, valid-sized w (g .valid))) (long-moved w store own m shaped g)
+seen-shaped w store c shaped (as-row next own m g z l) =
+    let put : Shaped (withSite own (m .step .site) w) =
+    shaped-put w own (m .step .site) shaped (omega (arith, valid-sized w (g .valid))) (long-moved w store own m shaped g) in
+    record { sites = put .sites; codes = put .codes; joined = put .joined }
+
+-- a call, refused or not, leaves the shape
+pub shaped-kept : (w : World) (store list : List ℕ) (at : ℕ) → Shaped w → Shaped (oneCommand w store list at .world)
+shaped-kept w store list at shaped = seen-shaped w store (oneCommand w store list at) shaped (view w store list at)

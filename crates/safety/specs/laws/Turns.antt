@@ -1,0 +1,272 @@
+-- What each of the small steps keeps, every rule's move keeps.
+use Prim.Native.Nat.{ℕ}
+use mathlib.Core.Bool.{Bool, true, false, true≢false, false≢true}
+use mathlib.Core.List.{List, [], _∷_, _++_, append-nil}
+use mathlib.Core.Path.{_≡_, refl, ap, _∙_}
+use lib.Dec.{ltb, leb, eqb}
+use lib.ListN.{set}
+use Rattle.choice.specs.Choice.{pick, both, either}
+use Rattle.choice.specs.laws.ChoiceLaws.{pick-ind, both-second}
+use Rattle.vector.specs.Vector.{count, lowestOutcome}
+use Rattle.row.specs.declared.Row.{Row}
+use Rattle.row.specs.Rows.{codesKnown, getRow, rowKnown}
+use Rattle.site.specs.declared.Group.{Group}
+use Rattle.site.specs.declared.Outcome.{Outcome}
+use Rattle.site.specs.declared.Outcome.the-variants as Outcome·
+use Rattle.site.specs.declared.State.{State}
+use Rattle.site.specs.declared.State.the-variants as State·
+use Rattle.site.specs.declared.Site.{Site}
+use Rattle.site.specs.declared.CommitQuorum.{CommitQuorum}
+use Rattle.site.specs.declared.AbortQuorum.{AbortQuorum}
+use Rattle.site.specs.State.{stateBy, stateOf, codeOf, isTerminated, isActive, commitReached, abortReached}
+use Rattle.site.specs.Fields.{withUp, withCoordinator, withCodes}
+use Rattle.site.specs.Records.{
+  Written,
+  wrote,
+  Kind,
+  commit,
+  abort,
+  prepareRecord,
+  groupRecord,
+  outcomeRecord,
+  writePrepare,
+  joinGroup,
+  writeOutcome,
+}
+use Rattle.site.specs.Rules.{
+  Move,
+  Noted,
+  silent,
+  commanding,
+  replying,
+  start,
+  takeOver,
+  chooseGroup,
+  decideCommit,
+  decideAbort,
+  timeoutIn,
+  timeout,
+  hear,
+  adoptCode,
+  adopt,
+  voteIn,
+  joinCommitIn,
+  joinAbortIn,
+  after,
+  answer,
+  deliver,
+  keptVector,
+  crash,
+  recover,
+}
+use Rattle.world.specs.declared.World.{World}
+use Rattle.world.specs.Worlds.{siteOf, isWilling}
+use Rattle.safety.specs.laws.View.{Turn, by-start, by-timeout, by-deliver, by-crash, by-recover}
+
+-- the small steps of site `own` among n, on a site and the records written so far
+pub record Steady (own n : ℕ) (Q : Site → List Written → Type 0) : Type 0 where
+  pub up : (b : Bool) (s : Site) (H : List Written) → Q s H → Q (withUp b s) H
+  pub role : (b : Bool) (s : Site) (H : List Written) → Q s H → Q (withCoordinator b s) H
+  pub prepares :
+      (s : Site) (H : List Written) → stateOf s ≡ State·.Active → Q s H →
+      Q (writePrepare own s) (H ++ (wrote own prepareRecord ∷ []))
+  pub joins :
+      (k : Kind) (s : Site) (H : List Written) → s .outcome ≡ Outcome·.None → Q s H →
+      Q (joinGroup k own s) (H ++ (wrote own (groupRecord k) ∷ []))
+  pub decides :
+      (k : Kind) (s : Site) (H : List Written) → Q s H → Q (writeOutcome k own s) (H ++ (wrote own (outcomeRecord k) ∷ []))
+  pub hears : (said : List ℕ) (s : Site) (H : List Written) → codesKnown n said ≡ true → Q s H → Q (hear own n said s) H
+  pub forgets :
+      (s : Site) (H : List Written) → Q s H →
+      Q (withCodes (set (keptVector (s .group) (s .joined)) own (codeOf (stateOf s))) s) H
+
+-- a site that is not terminated has no outcome
+undecided-by : (o : Outcome) (g : Group) (p : Bool) → isTerminated (stateBy o g p) ≡ false → o ≡ Outcome·.None
+unfolding stateBy isTerminated
+undecided-by Outcome·.None g p e = refl
+undecided-by Outcome·.Commit g p e = absurd (true≢false e)
+undecided-by Outcome·.Abort g p e = absurd (true≢false e)
+
+pub undecided : (s : Site) (st : State) → stateOf s ≡ st → isTerminated st ≡ false → s .outcome ≡ Outcome·.None
+unfolding stateOf
+undecided s st e t = undecided-by (s .outcome) (s .group) (s .prepared) (ap isTerminated e ∙ t)
+
+module _ (own n : ℕ) (Q : Site → List Written → Type 0) (steady : Steady own n Q) where
+  -- of a move, and of a site with records
+  Moved : Move → Type 0
+  Moved m = Q (m .step .site) (m .records)
+
+  Held : Noted → Type 0
+  Held m = Q (m .site) (m .records)
+
+  more : (s : Site) (H : List Written) → Q s H → Q s (H ++ [])
+  more s H q = rw append-nil q
+
+  keeps-takeOver : (kind : ℕ) (s : Site) → Q s [] → Moved (takeOver kind own n s)
+  unfolding Moved takeOver commanding
+  keeps-takeOver kind s q = steady .role true s [] q
+
+  keeps-chooseGroup : (s : Site) → s .outcome ≡ Outcome·.None → Q s [] → Moved (chooseGroup own n s)
+  unfolding Moved chooseGroup commanding
+  keeps-chooseGroup s o q =
+      pick-ind Moved (either (eqb (count n (s .codes) 1) n) (ltb 0 (count n (s .codes) 2)))
+      (commanding 3 own n (joinGroup commit own s) (wrote own (groupRecord commit) ∷ []))
+      (commanding 4 own n (joinGroup abort own s) (wrote own (groupRecord abort) ∷ []))
+      (λ _. steady .joins commit s [] o q) (λ _. steady .joins abort s [] o q)
+
+  keeps-decideCommit : (c : CommitQuorum) (s : Site) → Q s [] → Moved (decideCommit own n c s)
+  unfolding Moved decideCommit commanding
+  keeps-decideCommit c s q =
+      pick-ind Moved (commitReached c n (s .codes))
+      (commanding 6 own n (writeOutcome commit own s) (wrote own (outcomeRecord commit) ∷ []))
+      (commanding 3 own n s [])
+      (λ _. steady .decides commit s [] q) (λ _. q)
+
+  keeps-decideAbort : (a : AbortQuorum) (s : Site) → Q s [] → Moved (decideAbort own n a s)
+  unfolding Moved decideAbort commanding
+  keeps-decideAbort a s q =
+      pick-ind Moved (abortReached a n (s .codes))
+      (commanding 6 own n (writeOutcome abort own s) (wrote own (outcomeRecord abort) ∷ []))
+      (commanding 4 own n s [])
+      (λ _. steady .decides abort s [] q) (λ _. q)
+
+  keeps-timeoutIn :
+      (st : State) (c : CommitQuorum) (a : AbortQuorum) (s : Site) → stateOf s ≡ st → Q s [] → Moved (timeoutIn st own n c a s)
+  unfolding Moved timeoutIn silent isTerminated
+  keeps-timeoutIn State·.Active c a s e q = steady .decides abort s [] q
+  keeps-timeoutIn State·.Prepared c a s e q =
+      pick-ind Moved (s .coordinator) (chooseGroup own n s) (takeOver 1 own n s)
+      (λ _. keeps-chooseGroup s (undecided s State·.Prepared e refl) q) (λ _. keeps-takeOver 1 s q)
+  keeps-timeoutIn State·.CommitGroup c a s e q =
+      pick-ind Moved (s .coordinator) (decideCommit own n c s) (takeOver 3 own n s)
+      (λ _. keeps-decideCommit c s q) (λ _. keeps-takeOver 3 s q)
+  keeps-timeoutIn State·.AbortGroup c a s e q =
+      pick-ind Moved (s .coordinator) (decideAbort own n a s) (takeOver 4 own n s)
+      (λ _. keeps-decideAbort a s q) (λ _. keeps-takeOver 4 s q)
+  keeps-timeoutIn State·.Committed c a s e q = keeps-takeOver 6 s q
+  keeps-timeoutIn State·.Aborted c a s e q = keeps-takeOver 6 s q
+
+  keeps-timeout : (c : CommitQuorum) (a : AbortQuorum) (s : Site) → Q s [] → Moved (timeout own n c a s)
+  unfolding timeout
+  keeps-timeout c a s q = keeps-timeoutIn (stateOf s) c a s refl q
+
+  keeps-adopt : (s : Site) → Q s [] → Held (adopt own n s)
+  unfolding Held adopt adoptCode
+  keeps-adopt s q =
+      pick-ind Held (isTerminated (stateOf s)) (record { site = s; records = [] })
+      (adoptCode (lowestOutcome n (s .codes)) own s) (λ _. q) λ _.
+      pick-ind Held (eqb (lowestOutcome n (s .codes)) 4)
+      (record { site = writeOutcome commit own s; records = wrote own (outcomeRecord commit) ∷ [] })
+      (pick (eqb (lowestOutcome n (s .codes)) 5)
+      (record { site = writeOutcome abort own s; records = wrote own (outcomeRecord abort) ∷ [] })
+      (record { site = s; records = [] }))
+      (λ _. steady .decides commit s [] q) λ _.
+      pick-ind Held (eqb (lowestOutcome n (s .codes)) 5)
+      (record { site = writeOutcome abort own s; records = wrote own (outcomeRecord abort) ∷ [] })
+      (record { site = s; records = [] })
+      (λ _. steady .decides abort s [] q) (λ _. q)
+
+  keeps-voteIn :
+      (st : State) (willing : Bool) (s : Site) (H : List Written) → stateOf s ≡ st → Q s H →
+      Held (after H (voteIn st own willing s))
+  unfolding Held after voteIn
+  keeps-voteIn State·.Active willing s H e q =
+      pick-ind (λ m. Held (after H m)) willing (record { site = writePrepare own s; records = wrote own prepareRecord ∷ [] })
+      (record { site = writeOutcome abort own s; records = wrote own (outcomeRecord abort) ∷ [] })
+      (λ _. steady .prepares s H e q) (λ _. steady .decides abort s H q)
+  keeps-voteIn State·.Prepared willing s H e q = more s H q
+  keeps-voteIn State·.CommitGroup willing s H e q = more s H q
+  keeps-voteIn State·.AbortGroup willing s H e q = more s H q
+  keeps-voteIn State·.Committed willing s H e q = more s H q
+  keeps-voteIn State·.Aborted willing s H e q = more s H q
+
+  keeps-joinCommitIn :
+      (st : State) (s : Site) (H : List Written) → stateOf s ≡ st → Q s H → Held (after H (joinCommitIn st own s))
+  unfolding Held after joinCommitIn isTerminated
+  keeps-joinCommitIn State·.Active s H e q = more s H q
+  keeps-joinCommitIn State·.Prepared s H e q = steady .joins commit s H (undecided s State·.Prepared e refl) q
+  keeps-joinCommitIn State·.CommitGroup s H e q = more s H q
+  keeps-joinCommitIn State·.AbortGroup s H e q = more s H q
+  keeps-joinCommitIn State·.Committed s H e q = more s H q
+  keeps-joinCommitIn State·.Aborted s H e q = more s H q
+
+  keeps-joinAbortIn :
+      (st : State) (s : Site) (H : List Written) → stateOf s ≡ st → Q s H → Held (after H (joinAbortIn st own s))
+  unfolding Held after joinAbortIn isTerminated
+  keeps-joinAbortIn State·.Active s H e q = steady .joins abort s H (undecided s State·.Active e refl) q
+  keeps-joinAbortIn State·.Prepared s H e q = steady .joins abort s H (undecided s State·.Prepared e refl) q
+  keeps-joinAbortIn State·.CommitGroup s H e q = more s H q
+  keeps-joinAbortIn State·.AbortGroup s H e q = more s H q
+  keeps-joinAbortIn State·.Committed s H e q = more s H q
+  keeps-joinAbortIn State·.Aborted s H e q = more s H q
+
+  keeps-answer : (kind sender : ℕ) (willing : Bool) (m : Noted) → Held m → Moved (answer kind own sender willing m)
+  unfolding Held Moved answer replying silent
+  keeps-answer kind sender willing m q =
+      let vote : Noted = after (m .records) (voteIn (stateOf (m .site)) own willing (m .site)) in
+      let joinC : Noted = after (m .records) (joinCommitIn (stateOf (m .site)) own (m .site)) in
+      let joinA : Noted = after (m .records) (joinAbortIn (stateOf (m .site)) own (m .site)) in
+      pick-ind Moved (eqb kind 1) (replying 2 own sender vote)
+      (pick (eqb kind 3) (replying 5 own sender joinC) (pick (eqb kind 4) (replying 5 own sender joinA)
+      (pick (eqb kind 6) (replying 7 own sender m) (silent (m .site) (m .records)))))
+      (λ _. keeps-voteIn (stateOf (m .site)) willing (m .site) (m .records) refl q) λ _.
+      pick-ind Moved (eqb kind 3) (replying 5 own sender joinC) (pick (eqb kind 4) (replying 5 own sender joinA)
+      (pick (eqb kind 6) (replying 7 own sender m) (silent (m .site) (m .records))))
+      (λ _. keeps-joinCommitIn (stateOf (m .site)) (m .site) (m .records) refl q) λ _.
+      pick-ind Moved (eqb kind 4) (replying 5 own sender joinA)
+      (pick (eqb kind 6) (replying 7 own sender m) (silent (m .site) (m .records)))
+      (λ _. keeps-joinAbortIn (stateOf (m .site)) (m .site) (m .records) refl q) λ _.
+      pick-ind Moved (eqb kind 6) (replying 7 own sender m) (silent (m .site) (m .records)) (λ _. q) (λ _. q)
+
+  keeps-deliver :
+      (willing : Bool) (row : Row) (s : Site) → rowKnown n row ≡ true → Q s [] → Moved (deliver own n willing row s)
+  unfolding deliver rowKnown
+  keeps-deliver willing row s known q =
+      keeps-answer (row .kind) (row .sender) willing (adopt own n (hear own n (row .codes) s))
+      (keeps-adopt (hear own n (row .codes) s)
+      (steady .hears (row .codes) s []
+      (both-second (ltb (row .sender) n) (codesKnown n (row .codes))
+      (both-second (both (leb 1 (row .kind)) (leb (row .kind) 7)) (both (ltb (row .sender) n) (codesKnown n (row .codes))) known))
+      q))
+
+  keeps-crash : (s : Site) → Q s [] → Moved (crash own s)
+  unfolding Moved crash silent
+  keeps-crash s q = steady .up false _ [] (steady .role false _ [] (steady .forgets s [] q))
+
+  keeps-recover : (s : Site) → Q s [] → Moved (recover s)
+  unfolding Moved recover silent
+  keeps-recover s q = steady .up true s [] q
+
+-- START is at site 0
+keeps-start :
+    (n : ℕ) (Q : Site → List Written → Type 0) → Steady 0 n Q → (willing : Bool) (s : Site) → stateOf s ≡ State·.Active →
+    Q s [] → Q (start n willing s .step .site) (start n willing s .records)
+unfolding start commanding
+keeps-start n Q steady willing s e q =
+    pick-ind (λ m. Q (m .step .site) (m .records)) willing
+    (commanding 1 0 n (withCoordinator true (writePrepare 0 s)) (wrote 0 prepareRecord ∷ []))
+    (commanding 6 0 n (withCoordinator true (writeOutcome abort 0 s)) (wrote 0 (outcomeRecord abort) ∷ []))
+    (λ _. steady .role true (writePrepare 0 s) (wrote 0 prepareRecord ∷ []) (steady .prepares s [] e q))
+    (λ _. steady .role true (writeOutcome abort 0 s) (wrote 0 (outcomeRecord abort) ∷ []) (steady .decides abort s [] q))
+
+is-active : (st : State) → isActive st ≡ true → st ≡ State·.Active
+unfolding isActive
+is-active State·.Active e = refl
+is-active State·.Prepared e = absurd (false≢true e)
+is-active State·.CommitGroup e = absurd (false≢true e)
+is-active State·.AbortGroup e = absurd (false≢true e)
+is-active State·.Committed e = absurd (false≢true e)
+is-active State·.Aborted e = absurd (false≢true e)
+
+-- the rule, whichever it is
+pub turn-keeps :
+    (w : World) (store : List ℕ) (own : ℕ) (m : Move) (Q : Site → List Written → Type 0) → Steady own (w .n) Q →
+    Turn w store own m → Q (siteOf w own) [] → Q (m .step .site) (m .records)
+unfolding Moved
+turn-keeps w store own m Q steady (by-start active) q =
+    keeps-start (w .n) Q steady (isWilling w 0) (siteOf w 0) (is-active (stateOf (siteOf w 0)) active) q
+turn-keeps w store own m Q steady (by-timeout i) q = keeps-timeout i (w .n) Q steady (w .commit) (w .abort) (siteOf w i) q
+turn-keeps w store own m Q steady (by-deliver i k there known) q =
+    keeps-deliver i (w .n) Q steady (isWilling w i) (getRow store k) (siteOf w i) known q
+turn-keeps w store own m Q steady (by-crash i) q = keeps-crash i (w .n) Q steady (siteOf w i) q
+turn-keeps w store own m Q steady (by-recover i) q = keeps-recover i (w .n) Q steady (siteOf w i) q

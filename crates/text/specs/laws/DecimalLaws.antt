@@ -1,0 +1,84 @@
+-- A decimal number is right: its digits read back give the number, it has no leading nought, and at most six digits.
+use Prim.Native.Nat.{ℕ, _+_, _*_, _-_, _/_, _%_, _<_, _≤_}
+use Prim.Native.String.{String}
+use mathlib.Core.List.{List, [], _∷_, _++_}
+use mathlib.Core.Path.{_≡_, refl, sym, ap, _∙_}
+use native.Mathlib.Nat.{div-div-eq-div-mul, div-add-mod, div-eq-of-lt}
+use native.Mathlib.Omega.{arith}
+use lib.Dec.{leb}
+use lib.ListN.{length, length-append, getD}
+use borrow.Author.Tests.{le-leb, lt-leb, leb-true, leb-false}
+use Rattle.choice.specs.laws.Cases.{by-test}
+use Rattle.text.specs.Text.{text, digitAt, decimal, named}
+
+-- the number that digits stand for, after a number read before them
+unfoldable pub readFrom : ℕ → List ℕ → ℕ
+readFrom v [] = v
+readFrom v (d ∷ s) = readFrom (10 * v + (d - 48)) s
+
+read-join : (v : ℕ) (s t : List ℕ) → readFrom v (s ++ t) ≡ readFrom (readFrom v s) t
+unfolding readFrom
+read-join v [] t = refl
+read-join v (d ∷ s) t = read-join (10 * v + (d - 48)) s t
+
+-- a number reaches a unit or lies below it
+by-unit {ℓ} : {P : Type ℓ} (unit x : ℕ) → (unit ≤ x → P) → (x < unit → P) → P
+by-unit unit x f g = by-test (leb unit x) (λ e. f (leb-true unit x e)) (λ e. g (leb-false unit x e))
+
+shown : (unit x : ℕ) → unit ≤ x → digitAt unit x ≡ (48 + x / unit % 10) ∷ []
+unfolding digitAt
+shown unit x h = rw (le-leb unit x h)
+
+hidden : (unit x : ℕ) → x < unit → digitAt unit x ≡ []
+unfolding digitAt
+hidden unit x h = rw (lt-leb unit x h)
+
+digit-length : (unit x : ℕ) → length (digitAt unit x) ≤ 1
+digit-length unit x =
+    by-unit unit x (λ h. rw (shown unit x h) (omega arith)) (λ h. rw (hidden unit x h) (omega arith))
+
+pub decimal-length : (x : ℕ) → length (decimal x) ≤ 6
+unfolding decimal
+decimal-length x =
+    simp length-append
+    (omega (arith, digit-length 100000 x, digit-length 10000 x, digit-length 1000 x, digit-length 100 x, digit-length 10 x))
+
+-- the digit at a unit, after the number above it
+digit-reads : (unit x : ℕ) → readFrom (x / (unit * 10)) (digitAt unit x) ≡ x / unit
+unfolding readFrom
+digit-reads unit x =
+    by-unit unit x
+    (λ h. rw (shown unit x h, ← div-div-eq-div-mul x unit 10) (omega (arith, div-add-mod (x / unit) 10)))
+    (λ h. rw (hidden unit x h) (div-eq-of-lt (omega arith) ∙ sym (div-eq-of-lt h)))
+
+-- digits that read as the number above a unit, and the unit's digit after them
+next-reads :
+    (unit x : ℕ) (s : List ℕ) → readFrom 0 s ≡ x / (unit * 10) → readFrom 0 (s ++ digitAt unit x) ≡ x / unit
+next-reads unit x s e =
+    read-join 0 s (digitAt unit x) ∙ ap (λ v. readFrom v (digitAt unit x)) e ∙ digit-reads unit x
+
+last-reads : (x : ℕ) (s : List ℕ) → readFrom 0 s ≡ x / 10 → readFrom 0 (s ++ (48 + x % 10) ∷ []) ≡ x
+unfolding readFrom
+last-reads x s e =
+    read-join 0 s ((48 + x % 10) ∷ []) ∙ ap (λ v. readFrom v ((48 + x % 10) ∷ [])) e
+    ∙ (omega (arith, div-add-mod x 10))
+
+-- the digits of a number below a million read back give the number
+pub decimal-reads : (x : ℕ) → x < 1000000 → readFrom 0 (decimal x) ≡ x
+unfolding decimal readFrom
+decimal-reads x h =
+    last-reads x (digitAt 100000 x ++ digitAt 10000 x ++ digitAt 1000 x ++ digitAt 100 x ++ digitAt 10 x)
+    (next-reads 10 x (digitAt 100000 x ++ digitAt 10000 x ++ digitAt 1000 x ++ digitAt 100 x)
+    (next-reads 100 x (digitAt 100000 x ++ digitAt 10000 x ++ digitAt 1000 x)
+    (next-reads 1000 x (digitAt 100000 x ++ digitAt 10000 x)
+    (next-reads 10000 x (digitAt 100000 x) (next-reads 100000 x [] (sym (div-eq-of-lt h)))))))
+
+-- a number from ten up has no leading nought
+pub no-leading-nought : (x : ℕ) → 10 ≤ x → x < 1000000 → getD (decimal x) 0 0 ≡ 48 → ⊥
+unfolding decimal
+no-leading-nought x low high =
+    by-unit 100000 x (λ h. rw (shown 100000 x h) (λ e. omega arith)) λ h₁. rw (hidden 100000 x h₁)
+    (by-unit 10000 x (λ h. rw (shown 10000 x h) (λ e. omega arith)) λ h₂. rw (hidden 10000 x h₂)
+    (by-unit 1000 x (λ h. rw (shown 1000 x h) (λ e. omega arith)) λ h₃. rw (hidden 1000 x h₃)
+    (by-unit 100 x (λ h. rw (shown 100 x h) (λ e. omega arith)) λ h₄. rw (hidden 100 x h₄)
+    (rw (shown 10 x low) (λ e. omega arith)))))
