@@ -15,32 +15,31 @@ fn play_commands(fresh: World, store: &mut [u8], list: &[u8]) -> ListPlayed
     ensures played { λ r. ⌜ r ≡ (playList (now (store .entry)) (now (list .entry))) .played ⌝ }
     ensures stored { λ r. ⌜ now (store .exit) ≡ (playList (now (store .entry)) (now (list .entry))) .store ⌝ }
 {
-    let mut sites = fresh.sites;
-    let mut head = play::head_of(fresh);
+    let mut world = fresh;
     let mut at = 5;
     let mut events = 0;
     while at < list.len() {
         let reading = command::read_command(list, at);
-        let own = play::actor(reading, head.n);
-        let site = sites[own];
-        let change = play::act(reading, head, site, store, at);
+        let own = play::actor(reading, world.n);
+        let site = world.sites[own];
+        let change = play::act(reading, play::head_of(world), site, store, at);
         if change.number != 0 {
             return ListPlayed {
                 number: change.number,
-                world: play::world_of(sites, head),
+                world,
                 events,
                 place: at,
             };
         }
         let after = change.site;
-        sites[own] = after;
-        head.rows = change.rows;
+        world.sites[own] = after;
+        world.rows = change.rows;
         at = change.place;
         events += 1;
     }
     ListPlayed {
         number: 0,
-        world: play::world_of(sites, head),
+        world,
         events,
         place: at,
     }

@@ -9,7 +9,6 @@ use Rattle.command.specs.Commands.{readCommand}
 use Rattle.world.specs.declared.World.{World}
 use Rattle.world.specs.Worlds.{siteOf}
 use Rattle.play.specs.declared.Change.{Change}
-use Rattle.play.specs.declared.Head.{Head}
 use Rattle.play.specs.declared.Played.{Played}
 use Rattle.play.specs.Calls.{playedOf}
 use Rattle.play.specs.Commands.{performRead, playCommand}
@@ -40,37 +39,28 @@ module _ (p : Play) (w : World) (store list : List ℕ) (at events : ℕ) (r : P
 
 -- a turn's call may be made
 pub may-act :
-    {p : Play} (sites : List Site) (h : Head) {store list : List ℕ} {at events : ℕ} →
-    Underway p (worldOf sites h) store list at events → Ready h store
-unfolding headOf worldOf
-may-act sites h {store} u = ready (worldOf sites h) store (u .room) (u .valid)
+    {p : Play} (w : World) {store list : List ℕ} {at events : ℕ} → Underway p w store list at events → Ready (headOf w) store
+may-act w {store} u = ready w store (u .room) (u .valid)
 
-module _ {p : Play} (sites : List Site) (h : Head) {store list : List ℕ} {at events : ℕ} {reading : Reading} {own : ℕ}
-    {s : Site} (c : Change) (after : List ℕ) (u : Underway p (worldOf sites h) store list at events)
-    (left : at < length list) (e : reading ≡ readCommand list at) (f : own ≡ actor reading (h .n))
-    (g : s ≡ siteOf (worldOf sites h) own)
-    (acts : Acts h (actor reading (h .n)) s c after (λ w. performRead reading w store at)) where
+module _ {p : Play} (w : World) {store list : List ℕ} {at events : ℕ} {reading : Reading} {own : ℕ} {s : Site} (c : Change)
+    (after : List ℕ) (u : Underway p w store list at events) (left : at < length list) (e : reading ≡ readCommand list at)
+    (f : own ≡ actor reading (w .n)) (g : s ≡ siteOf w own)
+    (acts : Acts (headOf w) (actor reading (w .n)) s c after (λ x. performRead reading x store at)) where
   call-is :
-      (changed (worldOf sites h) own c ≡ playedOf (playCommand (worldOf sites h) store list at))
-      × (after ≡ playCommand (worldOf sites h) store list at .store)
-  call-is = acts-played sites h store list at reading own s c after e f g acts
+      (changed w own c ≡ playedOf (playCommand w store list at)) × (after ≡ playCommand w store list at .store)
+  unfolding headOf worldOf
+  call-is = acts-played (w .sites) (headOf w) store list at reading own s c after e f g acts
 
-  -- accepted: the next turn begins with site and row count changed
-  pub changes-on : c .number ≡ 0 → Underway p (changed (worldOf sites h) own c .world) after list (c .place) (events + 1)
+  -- accepted: the next turn begins with the site put back and the row count changed
+  pub changes-on : c .number ≡ 0 → Underway p (changed w own c .world) after list (c .place) (events + 1)
   unfolding changed
-  changes-on =
-      steps-on p (worldOf sites h) store list at events (changed (worldOf sites h) own c) after u left (call-is .0)
-      (call-is .1)
+  changes-on = steps-on p w store list at events (changed w own c) after u left (call-is .0) (call-is .1)
 
   pub changes-past : c .number ≡ 0 → at < c .place
   unfolding changed
-  changes-past =
-      steps-past p (worldOf sites h) store list at events (changed (worldOf sites h) own c) after u left (call-is .0)
-      (call-is .1)
+  changes-past = steps-past p w store list at events (changed w own c) after u left (call-is .0) (call-is .1)
 
   -- refused: the play is over, with the world before the command
-  pub changes-out : (c .number ≡ 0 → ⊥) → Over p (c .number) (worldOf sites h) after at events
+  pub changes-out : (c .number ≡ 0 → ⊥) → Over p (c .number) w after at events
   unfolding changed
-  changes-out =
-      steps-out p (worldOf sites h) store list at events (changed (worldOf sites h) own c) after u left (call-is .0)
-      (call-is .1)
+  changes-out = steps-out p w store list at events (changed w own c) after u left (call-is .0) (call-is .1)

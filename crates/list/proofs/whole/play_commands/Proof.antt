@@ -1,4 +1,5 @@
 use Rattle.list.specs.laws.HeaderLaws.{headed}
+use Rattle.world.specs.declared.World.{World}
 use Rattle.world.specs.Worlds.{withSite, withRows}
 use Rattle.world.specs.laws.PartLaws.{siteOf-within}
 use Rattle.list.specs.laws.LoopLaws.{may-act, changes-on, changes-past, changes-out}
@@ -19,81 +20,101 @@ use Rattle.command.proofs.read_command.Reads as read-command-reads
 use Rattle.play.proofs.act.Reads as act-reads
 use Rattle.play.proofs.actor.Reads as actor-reads
 use Rattle.play.proofs.head_of.Reads as head-of-reads
-use Rattle.play.proofs.world_of.Reads as world-of-reads
 
 abbrev Inv-loop : tie.InvT-loop
-Inv-loop store₀ list sites₀ head₀ at₀ events₀ store sites head at events = Underway (playList store₀ list) (worldOf sites head) store list at events × (length store ≡ length store₀)
+Inv-loop store₀ list world₀ at₀ events₀ store world at events = Underway (playList store₀ list) world store list at events × (length store ≡ length store₀)
 
 abbrev μ-loop : tie.MeasureT-loop
-μ-loop store₀ list sites₀ head₀ at₀ events₀ store sites head at events = length list - at
+μ-loop store₀ list world₀ at₀ events₀ store world at events = length list - at
 
--- src/whole.rt:19:9
-head-of-requires : tie.Need-head-of-requires Inv-loop μ-loop
-head-of-requires c κs = search needs
-
--- src/whole.rt:22:5
+-- src/whole.rt:21:5
 loop-holds : tie.Need-loop-holds Inv-loop μ-loop
-unfolding headOf worldOf
-loop-holds c = (rw (c .head-of .ensures, c .before .before .before .before .pre .0) (loop-begins (now (c .before .before .before .before .args .store)) (now (c .before .before .before .before .args .list)) (c .before .before .before .before .pre .1) (c .before .before .before .before .pre .2)), refl)
+loop-holds c = (rw (c .before .before .pre .0) (loop-begins (now (c .before .before .args .store)) (now (c .before .before .args .list)) (c .before .before .pre .1) (c .before .before .pre .2)), refl)
 
--- src/whole.rt:23:13
+-- src/whole.rt:22:13
 read-command-requires : tie.Need-read-command-requires Inv-loop μ-loop
 read-command-requires c κs = search needs
 
--- src/whole.rt:24:13
+-- src/whole.rt:23:13
 actor-requires : tie.Need-actor-requires Inv-loop μ-loop
-actor-requires c κs = omega (arith, may-act (c .before .before .loop .sites) (c .before .before .loop .head) (c .before .before .loop .inv .0) .low)
+unfolding headOf
+actor-requires c κs = let l = c .before .before .loop in omega (arith, may-act (l .world) (l .inv .0) .low)
 
--- src/whole.rt:25:20
+-- src/whole.rt:24:20
 mul-site : tie.Need-mul-site Inv-loop μ-loop
-mul-site c = omega (arith, c .actor .ensures .1, may-act (c .before .before .before .loop .sites) (c .before .before .before .loop .head) (c .before .before .before .loop .inv .0) .high)
+unfolding headOf
+mul-site c = let l = c .before .before .before .loop in omega (arith, c .actor .ensures .1, may-act (l .world) (l .inv .0) .high)
 
--- src/whole.rt:25:20
-array-copy-out-site : tie.Need-array-copy-out-site Inv-loop μ-loop
-array-copy-out-site c = omega (arith, c .actor .ensures .1, may-act (c .before .before .before .loop .sites) (c .before .before .before .loop .head) (c .before .before .before .loop .inv .0) .high)
+-- src/whole.rt:24:20
+element-copy-out-site : tie.Need-element-copy-out-site Inv-loop μ-loop
+unfolding headOf
+element-copy-out-site c = let l = c .before .before .before .loop in omega (arith, c .actor .ensures .1, may-act (l .world) (l .inv .0) .high)
 
--- src/whole.rt:26:13
+-- src/whole.rt:25:41
+head-of-requires : tie.Need-head-of-requires Inv-loop μ-loop
+head-of-requires c κs = search needs
+
+-- src/whole.rt:25:13
 act-requires : tie.Need-act-requires Inv-loop μ-loop
-act-requires c κs = may-act (c .before .before .before .before .before .loop .sites) (c .before .before .before .before .before .loop .head) (c .before .before .before .before .before .loop .inv .0)
+act-requires c κs = rw (c .before .head-of .ensures) (may-act (c .before .before .before .before .before .before .loop .world) (c .before .before .before .before .before .before .loop .inv .0))
 
--- src/whole.rt:30:24
-world-of-requires : tie.Need-world-of-requires Inv-loop μ-loop
-world-of-requires c κs = search needs
-
--- src/whole.rt:28:13
+-- src/whole.rt:27:13
 same-length : tie.Need-same-length Inv-loop μ-loop
 same-length c = omega arith
 
--- src/whole.rt:28:13
+-- src/whole.rt:27:13
 returns : tie.Need-returns Inv-loop μ-loop
-unfolding worldOf
-returns c = let o = changes-out (c .before .before .before .before .before .before .before .before .before .before .before .loop .sites) (c .before .before .before .before .before .before .before .before .before .before .before .loop .head) (c .before .before .before .before .before .act .result) (c .before .before .before .before .before .act .last .1 .1 .1 .0) (c .before .before .before .before .before .before .before .before .before .before .before .loop .inv .0) (c .before .before .before .before .before .before .before .before .before .before .loop-test .taken) (c .before .before .before .before .before .before .before .before .before .read-command .ensures) (c .before .before .before .before .before .before .before .before .actor .ensures .0) (siteOf-within (worldOf (c .before .before .before .before .before .before .before .before .before .before .before .loop .sites) (c .before .before .before .before .before .before .before .before .before .before .before .loop .head)) _ _ (omega (arith, c .before .before .before .before .before .before .before .before .actor .ensures .1, may-act (c .before .before .before .before .before .before .before .before .before .before .before .loop .sites) (c .before .before .before .before .before .before .before .before .before .before .before .loop .head) (c .before .before .before .before .before .before .before .before .before .before .before .loop .inv .0) .high, c .before .before .before .before .before .before .before .before .before .before .before .loop .inv .0 .shaped .sites))) (c .before .before .before .before .before .act .ensures) (c .before .if1 .taken) in rw (c .world-of .ensures) (o .played, o .kept)
+unfolding headOf
+returns c =
+    let o = let w = c .before .before .before .before .before .before .before .before .before .before .before .loop .world in
+    let i = c .before .before .before .before .before .before .before .before .before .before .before .loop .inv .0 in
+    let t = c .before .before .before .before .act in
+    let own = c .before .before .before .before .before .before .before .before .actor in
+    changes-out w (t .result) (t .last .1 .1 .1 .0) i (c .before .before .before .before .before .before .before .before .before .before .loop-test .taken) (c .before .before .before .before .before .before .before .before .before .read-command .ensures) (own .ensures .0)
+    (siteOf-within w (own .result) _ (omega (arith, own .ensures .1, may-act w i .high, i .shaped .sites)))
+    (rw (c .before .before .before .before .before .before .head-of .ensures) at (t .ensures)) (c .if1 .taken) in
+    (o .played, o .kept)
 
--- src/whole.rt:36:9
-mul-sites : tie.Need-mul-sites Inv-loop μ-loop
-mul-sites c = omega (arith, c .before .before .before .before .before .before .before .before .actor .ensures .1, may-act (c .before .before .before .before .before .before .before .before .before .before .before .loop .sites) (c .before .before .before .before .before .before .before .before .before .before .before .loop .head) (c .before .before .before .before .before .before .before .before .before .before .before .loop .inv .0) .high)
+-- src/whole.rt:35:9
+mul-after : tie.Need-mul-after Inv-loop μ-loop
+unfolding headOf
+mul-after c = let l = c .before .before .before .before .before .before .before .before .before .before .before .before .loop in omega (arith, c .before .before .before .before .before .before .before .before .before .actor .ensures .1, may-act (l .world) (l .inv .0) .high)
 
--- src/whole.rt:36:9
-array-set-from-sites : tie.Need-array-set-from-sites Inv-loop μ-loop
-array-set-from-sites c = omega (arith, c .before .before .before .before .before .before .before .before .actor .ensures .1, may-act (c .before .before .before .before .before .before .before .before .before .before .before .loop .sites) (c .before .before .before .before .before .before .before .before .before .before .before .loop .head) (c .before .before .before .before .before .before .before .before .before .before .before .loop .inv .0) .high)
+-- src/whole.rt:35:9
+element-set-from-after : tie.Need-element-set-from-after Inv-loop μ-loop
+unfolding headOf
+element-set-from-after c = let l = c .before .before .before .before .before .before .before .before .before .before .before .before .loop in omega (arith, c .before .before .before .before .before .before .before .before .before .actor .ensures .1, may-act (l .world) (l .inv .0) .high)
 
--- src/whole.rt:39:9
+-- src/whole.rt:38:9
 add-events : tie.Need-add-events Inv-loop μ-loop
-add-events c = let l = headed (now (c .before .before .before .before .before .before .before .before .before .before .before .before .before .before .before .before .args .list)) (c .before .before .before .before .before .before .before .before .before .before .before .before .before .before .before .before .pre .1) in omega (arith, c .before .before .before .before .before .before .before .before .before .before .before .loop .inv .0 .few, c .before .before .before .before .before .before .before .before .before .before .loop-test .taken, l)
+add-events c = let h = headed (now (c .before .before .before .before .before .before .before .before .before .before .before .before .before .before .before .args .list)) (c .before .before .before .before .before .before .before .before .before .before .before .before .before .before .before .pre .1) in omega (arith, c .before .before .before .before .before .before .before .before .before .before .before .before .loop .inv .0 .few, c .before .before .before .before .before .before .before .before .before .before .before .loop-test .taken, h)
 
--- src/whole.rt:22:5
+-- src/whole.rt:21:5
 loop-less : tie.Need-loop-less Inv-loop μ-loop
-unfolding worldOf
-loop-less c = let h = changes-past (c .before .before .before .before .before .before .before .before .before .before .before .loop .sites) (c .before .before .before .before .before .before .before .before .before .before .before .loop .head) (c .before .before .before .before .before .act .result) (c .before .before .before .before .before .act .last .1 .1 .1 .0) (c .before .before .before .before .before .before .before .before .before .before .before .loop .inv .0) (c .before .before .before .before .before .before .before .before .before .before .loop-test .taken) (c .before .before .before .before .before .before .before .before .before .read-command .ensures) (c .before .before .before .before .before .before .before .before .actor .ensures .0) (siteOf-within (worldOf (c .before .before .before .before .before .before .before .before .before .before .before .loop .sites) (c .before .before .before .before .before .before .before .before .before .before .before .loop .head)) _ _ (omega (arith, c .before .before .before .before .before .before .before .before .actor .ensures .1, may-act (c .before .before .before .before .before .before .before .before .before .before .before .loop .sites) (c .before .before .before .before .before .before .before .before .before .before .before .loop .head) (c .before .before .before .before .before .before .before .before .before .before .before .loop .inv .0) .high, c .before .before .before .before .before .before .before .before .before .before .before .loop .inv .0 .shaped .sites))) (c .before .before .before .before .before .act .ensures) (c .before .if1 .left) in omega arith
+unfolding headOf
+loop-less c =
+    let past = let w = c .before .before .before .before .before .before .before .before .before .before .before .before .loop .world in
+    let i = c .before .before .before .before .before .before .before .before .before .before .before .before .loop .inv .0 in
+    let t = c .before .before .before .before .before .act in
+    let own = c .before .before .before .before .before .before .before .before .before .actor in
+    changes-past w (t .result) (t .last .1 .1 .1 .0) i (c .before .before .before .before .before .before .before .before .before .before .before .loop-test .taken) (c .before .before .before .before .before .before .before .before .before .before .read-command .ensures) (own .ensures .0)
+    (siteOf-within w (own .result) _ (omega (arith, own .ensures .1, may-act w i .high, i .shaped .sites)))
+    (rw (c .before .before .before .before .before .before .before .head-of .ensures) at (t .ensures)) (c .before .if1 .left) in
+    omega arith
 
--- src/whole.rt:22:5
+-- src/whole.rt:21:5
 loop-again : tie.Need-loop-again Inv-loop μ-loop
-unfolding worldOf changed withRows withSite
-loop-again c = (changes-on (c .before .before .before .before .before .before .before .before .before .before .before .loop .sites) (c .before .before .before .before .before .before .before .before .before .before .before .loop .head) (c .before .before .before .before .before .act .result) (c .before .before .before .before .before .act .last .1 .1 .1 .0) (c .before .before .before .before .before .before .before .before .before .before .before .loop .inv .0) (c .before .before .before .before .before .before .before .before .before .before .loop-test .taken) (c .before .before .before .before .before .before .before .before .before .read-command .ensures) (c .before .before .before .before .before .before .before .before .actor .ensures .0) (siteOf-within (worldOf (c .before .before .before .before .before .before .before .before .before .before .before .loop .sites) (c .before .before .before .before .before .before .before .before .before .before .before .loop .head)) _ _ (omega (arith, c .before .before .before .before .before .before .before .before .actor .ensures .1, may-act (c .before .before .before .before .before .before .before .before .before .before .before .loop .sites) (c .before .before .before .before .before .before .before .before .before .before .before .loop .head) (c .before .before .before .before .before .before .before .before .before .before .before .loop .inv .0) .high, c .before .before .before .before .before .before .before .before .before .before .before .loop .inv .0 .shaped .sites))) (c .before .before .before .before .before .act .ensures) (c .before .if1 .left), omega arith)
-
--- src/whole.rt:43:16
-world-of-requires-2 : tie.Need-world-of-requires-2 Inv-loop μ-loop
-world-of-requires-2 c κs = search needs
+unfolding headOf changed withRows withSite
+loop-again c = (
+  let w = c .before .before .before .before .before .before .before .before .before .before .before .before .loop .world in
+      let i = c .before .before .before .before .before .before .before .before .before .before .before .before .loop .inv .0 in
+      let t = c .before .before .before .before .before .act in
+      let own = c .before .before .before .before .before .before .before .before .before .actor in
+      changes-on w (t .result) (t .last .1 .1 .1 .0) i (c .before .before .before .before .before .before .before .before .before .before .before .loop-test .taken) (c .before .before .before .before .before .before .before .before .before .before .read-command .ensures) (own .ensures .0)
+      (siteOf-within w (own .result) _ (omega (arith, own .ensures .1, may-act w i .high, i .shaped .sites)))
+      (rw (c .before .before .before .before .before .before .before .head-of .ensures) at (t .ensures)) (c .before .if1 .left),
+  omega arith,
+)
 
 -- src/whole.rt:13:1
 same-length-2 : tie.Need-same-length-2 Inv-loop μ-loop
@@ -101,7 +122,7 @@ same-length-2 c = omega arith
 
 -- src/whole.rt:13:1
 returns-2 : tie.Need-returns-2 Inv-loop μ-loop
-returns-2 c = let o = loop-ends (playList (now (c .before .before .before .before .before .before .before .args .store)) (now (c .before .before .before .before .before .before .before .args .list))) (worldOf (c .before .before .loop .sites) (c .before .before .loop .head)) (c .before .before .loop .store) (now (c .before .before .before .before .before .before .before .args .list)) (c .before .before .loop .at) (c .before .before .loop .events) (c .before .before .loop .inv .0) (c .before .loop-test .left) in rw (c .world-of2 .ensures) (o .played, o .kept)
+returns-2 c = let l = c .before .loop in let o = loop-ends (playList (now (c .before .before .before .before .args .store)) (now (c .before .before .before .before .args .list))) (l .world) (l .store) (now (c .before .before .before .before .args .list)) (l .at) (l .events) (l .inv .0) (c .loop-test .left) in (o .played, o .kept)
 
 pub play-commands-spec : {M : Type 1} → statement M
 play-commands-spec =
@@ -109,21 +130,19 @@ play-commands-spec =
     (tie.spec
     Inv-loop
     μ-loop
-    head-of-requires
     loop-holds
     read-command-requires
     actor-requires
     mul-site
-    array-copy-out-site
+    element-copy-out-site
+    head-of-requires
     act-requires
-    world-of-requires
     same-length
     returns
-    mul-sites
-    array-set-from-sites
+    mul-after
+    element-set-from-after
     add-events
     loop-less
     loop-again
-    world-of-requires-2
     same-length-2
     returns-2)
