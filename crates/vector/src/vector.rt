@@ -4,7 +4,7 @@ ghost use Prim.Native.Nat.{_+_, _<_, _≤_};
 ghost use lib.Dec.{ltb};
 ghost use Rattle.choice.specs.Choice.{pick, both};
 ghost use Rattle.vector.specs.Codes.{level};
-ghost use Rattle.vector.specs.Vector.{entryWeight, merge as mergeOf, count as countOf, firstOutcome, lowestOutcome, validEntry, validVector};
+ghost use Rattle.vector.specs.Vector.{entryWeight, merge as mergeOf, count as countOf, lowestOutcome, validEntry, validVector};
 use crate::codes::is_outcome;
 use crate::codes::level;
 
@@ -58,30 +58,19 @@ pub fn count(n: usize, codes: [u8; 16], code: u8) -> usize
     total
 }
 
-fn first_outcome(a: u8, b: u8) -> u8
-    ensures { λ r. ⌜ r ≡ firstOutcome a b ⌝ }
-{
-    if is_outcome(a) {
-        return a;
-    }
-    if is_outcome(b) {
-        return b;
-    }
-    0
-}
-
 // The outcome that the lowest site below n shows, or 0.
 pub fn lowest_outcome(n: usize, codes: [u8; 16]) -> u8
     requires { ⌜ n ≤ 16 ⌝ }
     ensures { λ r. ⌜ r ≡ lowestOutcome n codes ⌝ }
 {
-    let mut low = 0;
     let mut k = 0;
     while k < n {
-        low = first_outcome(low, codes[k]);
+        if is_outcome(codes[k]) {
+            return codes[k];
+        }
         k += 1;
     }
-    low
+    0
 }
 
 // The entries before k are valid, and the code at k is.

@@ -1,5 +1,6 @@
 -- Laws of merge, entry by entry.
 use Prim.Native.Nat.{ℕ, zero, suc, _≤_, _<_}
+use mathlib.Core.Bool.{true, false}
 use mathlib.Core.List.{List}
 use mathlib.Core.Path.{_≡_, refl, ap, sym, _∙_}
 use native.Mathlib.Omega.{arith}
@@ -10,8 +11,8 @@ use borrow.Author.Tests.{eq-eqb, ne-eqb, ltb-true, ltb-false}
 use Rattle.choice.specs.Choice.{pick}
 use Rattle.choice.specs.laws.ChoiceLaws.{set-ind}
 use Rattle.choice.specs.laws.Cases.{by-test, by-equal}
-use Rattle.vector.specs.Codes.{level}
-use Rattle.vector.specs.Vector.{merge, mergeEntry}
+use Rattle.vector.specs.Codes.{level, isOutcome}
+use Rattle.vector.specs.Vector.{merge, mergeEntry, firstOutcome, lowestOutcome}
 
 pub merge-length : (n own : ℕ) (said v : List ℕ) → length (merge n own said v) ≡ length v
 unfolding merge
@@ -80,3 +81,25 @@ merge-put-back n own said v below room =
     (λ e. rw e (sym (merge-at n own said v own below room ∙ entry-own own (getD v own 0) (getD said own 0))))
     (λ e. by-equal i n (λ f. rw f (merge-else n n said v n (omega arith) ∙ sym (merge-else n own said v n (omega arith))))
     (λ f. merge-other n n own said v i room f e)))
+
+-- an outcome already found stays
+first-found : (a b : ℕ) → isOutcome a ≡ true → firstOutcome a b ≡ a
+unfolding firstOutcome
+first-found a b e = rw e
+
+-- after none, the next entry decides
+pub lowest-found :
+    (k n : ℕ) (v : List ℕ) → k < n → lowestOutcome k v ≡ 0 → isOutcome (getD v k 0) ≡ true →
+    lowestOutcome n v ≡ getD v k 0
+unfolding lowestOutcome firstOutcome isOutcome
+lowest-found k zero v h none e = absurd (omega arith)
+lowest-found k (suc n) v h none e =
+    by-equal k n (λ q. rw (← q, none, e))
+    (λ q. let p : lowestOutcome n v ≡ getD v k 0 = lowest-found k n v (omega arith) none e in
+    first-found (lowestOutcome n v) (getD v n 0) (rw p e) ∙ p)
+
+-- one entry more that is none
+pub lowest-none :
+    (k : ℕ) (v : List ℕ) → lowestOutcome k v ≡ 0 → isOutcome (getD v k 0) ≡ false → lowestOutcome (suc k) v ≡ 0
+unfolding lowestOutcome firstOutcome isOutcome
+lowest-none k v none e = rw (none, e)
