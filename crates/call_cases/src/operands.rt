@@ -4,6 +4,8 @@ use case_line::command;
 use case_line::down;
 use case_line::fresh;
 use case_line::full;
+use site::AbortQuorum;
+use site::CommitQuorum;
 use site::Outcome;
 use site::Site;
 use world::World;
@@ -35,7 +37,7 @@ fn sites() {
 }
 
 fn sixteen() {
-    let world = World::fresh(16, 9, 8, 65535);
+    let world = World::fresh(16, CommitQuorum(9), AbortQuorum(8), 65535);
     command(b"8 TIMEOUT 16 of 16", world, b"\x03\x10", 0, 8, 0);
     command(b"8 TIMEOUT 15 of 16 passes", world, b"\x03\x0f", 0, 0, 2);
     command(b"8 CRASH 255 of 16", world, b"\x04\xff", 0, 8, 0);

@@ -2,6 +2,8 @@
 ghost use Prim.Native.Nat.{_<_};
 use list::ListPlayed;
 use play::Played;
+use site::AbortQuorum;
+use site::CommitQuorum;
 use site::Site;
 use word::wide;
 use world::World;
@@ -112,7 +114,7 @@ pub fn set(buffer: &mut [u8], at: usize, byte: u8) {
 
 // Three sites, C = A = 2, all willing.
 pub fn fresh() -> World {
-    World::fresh(3, 2, 2, 7)
+    World::fresh(3, CommitQuorum(2), AbortQuorum(2), 7)
 }
 
 // The same with no room for another row.

@@ -18,8 +18,8 @@ unfoldable pub headerOf : List ℕ → Header
 headerOf list =
     record {
       n = getD list 0 0;
-      commit = getD list 1 0;
-      abort = getD list 2 0;
+      commit = record { 0 = getD list 1 0 };
+      abort = record { 0 = getD list 2 0 };
       willing = getD list 3 0 + 256 * getD list 4 0;
     }
 

@@ -3,6 +3,8 @@ ghost use mathlib.Core.Path.{_≡_};
 ghost use Rattle.list.specs.Play.{headerOf, headerNumber};
 use crate::Header;
 use command::byte_at;
+use site::AbortQuorum;
+use site::CommitQuorum;
 use world::World;
 
 // n, C, A, and the willing sites with their low byte first.
@@ -11,8 +13,8 @@ pub fn read_header(list: &[u8]) -> Header
 {
     Header {
         n: byte_at(list, 0),
-        commit: byte_at(list, 1),
-        abort: byte_at(list, 2),
+        commit: CommitQuorum(byte_at(list, 1)),
+        abort: AbortQuorum(byte_at(list, 2)),
         willing: byte_at(list, 3) + 256 * byte_at(list, 4),
     }
 }
@@ -28,5 +30,7 @@ pub fn header_number(list: &[u8]) -> u8
         return 2;
     }
     let header = read_header(list);
-    world::sizes_number(header.n, header.commit, header.abort, header.willing)
+    let commit = header.commit;
+    let abort = header.abort;
+    world::sizes_number(header.n, commit, abort, header.willing)
 }

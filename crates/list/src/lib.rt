@@ -3,14 +3,16 @@ mod headers;
 mod whole;
 
 pub use headers::header_number;
+use site::AbortQuorum;
+use site::CommitQuorum;
 pub use whole::play_list;
 use world::World;
 
-// The header's numbers.
+// The header's numbers, each of its kind.
 pub struct Header {
     pub n: usize,
-    pub commit: usize,
-    pub abort: usize,
+    pub commit: CommitQuorum,
+    pub abort: AbortQuorum,
     pub willing: usize,
 }
 

@@ -70,6 +70,8 @@ pub fn play_list(store: &mut [u8], list: &[u8]) -> ListPlayed
         return refused_list(number);
     }
     let header = read_header(list);
-    let fresh = World::fresh(header.n, header.commit, header.abort, header.willing);
+    let commit = header.commit;
+    let abort = header.abort;
+    let fresh = World::fresh(header.n, commit, abort, header.willing);
     play_commands(fresh, store, list)
 }

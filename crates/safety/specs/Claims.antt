@@ -11,6 +11,8 @@ use Rattle.row.specs.Rows.{getRow, rowPlace}
 use Rattle.site.specs.State.{stateOf, isActive}
 use Rattle.site.specs.Records.{Written, recordCode}
 use Rattle.site.specs.Rules.{hear, adopt}
+use Rattle.site.specs.declared.CommitQuorum.{CommitQuorum}
+use Rattle.site.specs.declared.AbortQuorum.{AbortQuorum}
 use Rattle.command.specs.declared.Command.the-variants as Command·
 use Rattle.command.specs.declared.Delivery.{Delivery}
 use Rattle.command.specs.Commands.{readCommand, found}
@@ -47,17 +49,17 @@ pub record Safe (n willing : ℕ) (H : List Written) : Type 0 where
   pub one-outcome-at : (j : ℕ) → writtenAt j 4 H + writtenAt j 5 H ≤ 1
 
 -- the run from the maker's world
-abbrev pub freshRun : ℕ → ℕ → ℕ → ℕ → List ℕ → List Ask → Ran
+abbrev pub freshRun : ℕ → CommitQuorum → AbortQuorum → ℕ → List ℕ → List Ask → Ran
 freshRun n c a willing store asks = run (freshWorld n c a willing) store asks
 
 -- THEOREM 1: over every list of calls, each with any list bytes and any place, from the maker's world and any store
 abbrev pub Demand3 : Type 0
-Demand3 = (n c a willing : ℕ) (store : List ℕ) (asks : List Ask) → Safe n willing (freshRun n c a willing store asks .records)
+Demand3 = (n : ℕ) (c : CommitQuorum) (a : AbortQuorum) (willing : ℕ) (store : List ℕ) (asks : List Ask) → Safe n willing (freshRun n c a willing store asks .records)
 
 -- sizes that the maker refuses write no record at all
 abbrev pub RefusedSizes : Type 0
 RefusedSizes =
-    (n c a willing : ℕ) (store : List ℕ) (asks : List Ask) →
+    (n : ℕ) (c : CommitQuorum) (a : AbortQuorum) (willing : ℕ) (store : List ℕ) (asks : List Ask) →
     (sizesNumber n c a willing ≡ 0 → ⊥) → freshRun n c a willing store asks .records ≡ []
 
 -- no 4 beside 5 below n
@@ -77,7 +79,7 @@ pub record Delivered (w : World) (store : List ℕ) (k i : ℕ) : Type 0 where
 -- THEOREM 2: after any list of calls, an accepted delivery finds no conflict, and its join commit no active site
 abbrev pub NeverOccurs : Type 0
 NeverOccurs =
-    (n c a willing : ℕ) (store : List ℕ) (asks : List Ask) (ask : Ask) (d : Delivery) (next : ℕ) →
+    (n : ℕ) (c : CommitQuorum) (a : AbortQuorum) (willing : ℕ) (store : List ℕ) (asks : List Ask) (ask : Ask) (d : Delivery) (next : ℕ) →
     readCommand (ask .list) (ask .place) ≡ found (Command·.Deliver d) next →
     callOf (freshRun n c a willing store asks .world) (freshRun n c a willing store asks .store) ask .number ≡ 0 →
     Delivered (freshRun n c a willing store asks .world) (freshRun n c a willing store asks .store) (d .row) (d .site)

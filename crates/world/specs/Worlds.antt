@@ -8,6 +8,8 @@ use Rattle.choice.specs.Choice.{pick}
 use Rattle.row.specs.Bits.{hasBit}
 use Rattle.site.specs.declared.Site.{Site}
 use Rattle.site.specs.Fields.{blankSite}
+use Rattle.site.specs.declared.CommitQuorum.{CommitQuorum}
+use Rattle.site.specs.declared.AbortQuorum.{AbortQuorum}
 use Rattle.world.specs.declared.World.{World}
 use Rattle.world.specs.Sizes.{sizesNumber}
 
@@ -33,14 +35,14 @@ freshSites zero = downSites
 freshSites (suc k) = set (freshSites k) k (blankSite true)
 
 -- the maker: a fresh world, or the world of zeros for sizes that break 3 to 5
-unfoldable pub freshWorld : ℕ → ℕ → ℕ → ℕ → World
+unfoldable pub freshWorld : ℕ → CommitQuorum → AbortQuorum → ℕ → World
 freshWorld n c a willing =
     pick (eqb (sizesNumber n c a willing) 0)
     (record {
       sites = freshSites n;
       n = n;
-      commit = record { 0 = c };
-      abort = record { 0 = a };
+      commit = c;
+      abort = a;
       willing = willing;
       rows = 0;
     })

@@ -40,17 +40,17 @@ impl World {
     }
 
     // A fresh world, or the world of zeros for refused sizes.
-    pub fn fresh(n: usize, c: usize, a: usize, willing: usize) -> World
-        ensures { λ r. ⌜ r ≡ freshWorld n c a willing ⌝ }
+    pub fn fresh(n: usize, commit: CommitQuorum, abort: AbortQuorum, willing: usize) -> World
+        ensures { λ r. ⌜ r ≡ freshWorld n commit abort willing ⌝ }
     {
-        if sizes_number(n, c, a, willing) != 0 {
+        if sizes_number(n, commit, abort, willing) != 0 {
             return World::zero();
         }
         World {
             sites: fresh_sites(n),
             n,
-            commit: CommitQuorum(c),
-            abort: AbortQuorum(a),
+            commit,
+            abort,
             willing,
             rows: 0,
         }

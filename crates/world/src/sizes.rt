@@ -3,18 +3,20 @@ ghost use mathlib.Core.Path.{_≡_};
 ghost use Prim.Native.Nat.{_≤_};
 ghost use Rattle.world.specs.Sizes.{quorumsNumber, sizesNumber};
 use crate::World;
+use site::AbortQuorum;
+use site::CommitQuorum;
 
-fn quorums_number(n: usize, c: usize, a: usize, willing: usize) -> u8
+fn quorums_number(n: usize, commit: CommitQuorum, abort: AbortQuorum, willing: usize) -> u8
     requires { ⌜ n ≤ 16 ⌝ }
-    ensures { λ r. ⌜ r ≡ quorumsNumber n c a willing ⌝ }
+    ensures { λ r. ⌜ r ≡ quorumsNumber n commit abort willing ⌝ }
 {
-    if n <= c {
+    if n <= commit.0 {
         return 4;
     }
-    if n <= a {
+    if n <= abort.0 {
         return 4;
     }
-    if c + a <= n {
+    if commit.0 + abort.0 <= n {
         return 4;
     }
     if row::only_site(n) <= willing {
@@ -24,8 +26,8 @@ fn quorums_number(n: usize, c: usize, a: usize, willing: usize) -> u8
 }
 
 // The number of the first refusal that the sizes meet, or 0.
-pub fn sizes_number(n: usize, c: usize, a: usize, willing: usize) -> u8
-    ensures { λ r. ⌜ r ≡ sizesNumber n c a willing ⌝ }
+pub fn sizes_number(n: usize, commit: CommitQuorum, abort: AbortQuorum, willing: usize) -> u8
+    ensures { λ r. ⌜ r ≡ sizesNumber n commit abort willing ⌝ }
 {
     if n < 3 {
         return 3;
@@ -33,5 +35,5 @@ pub fn sizes_number(n: usize, c: usize, a: usize, willing: usize) -> u8
     if World::SITES < n {
         return 3;
     }
-    quorums_number(n, c, a, willing)
+    quorums_number(n, commit, abort, willing)
 }

@@ -82,7 +82,7 @@ impl World {
     {
         let commit = self.commit;
         let abort = self.abort;
-        if sizes_number(self.n, commit.0, abort.0, self.willing) != 0 {
+        if sizes_number(self.n, commit, abort, self.willing) != 0 {
             return false;
         }
         if World::ROWS < self.rows {

@@ -8,6 +8,8 @@ use Rattle.choice.specs.Choice.{pick}
 use Rattle.vector.specs.Vector.{validEntry, validEntries, validVector}
 use Rattle.site.specs.Fields.{zeroVector, blankSite}
 use Rattle.site.specs.State.{stateBy, stateOf, codeOf}
+use Rattle.site.specs.declared.CommitQuorum.{CommitQuorum}
+use Rattle.site.specs.declared.AbortQuorum.{AbortQuorum}
 use Rattle.world.specs.Sizes.{sizesNumber}
 use Rattle.world.specs.Worlds.{freshWorld, siteOf}
 use Rattle.world.specs.Valid.{validGroup, validSite, validWorld}
@@ -31,7 +33,7 @@ blank-valid : (own n : ℕ) (up : Bool) → own < 16 → validSite own n (blankS
 unfolding validSite validGroup blankSite stateOf stateBy codeOf
 blank-valid own n up h = simp (zero-valid, zero-at own h)
 
-pub fresh-valid : (n c a willing : ℕ) → sizesNumber n c a willing ≡ 0 → validWorld (freshWorld n c a willing) ≡ true
+pub fresh-valid : (n : ℕ) (c : CommitQuorum) (a : AbortQuorum) (willing : ℕ) → sizesNumber n c a willing ≡ 0 → validWorld (freshWorld n c a willing) ≡ true
 unfolding newWorld siteOf
 fresh-valid n c a willing e =
     let s : Sized n c a willing = sized n c a willing e in

@@ -6,6 +6,8 @@ use native.Mathlib.Omega.{arith}
 use lib.Dec.{ltb}
 use borrow.Author.Tests.{ltb-true, ltb-false}
 use Rattle.site.specs.Records.{Written}
+use Rattle.site.specs.declared.CommitQuorum.{CommitQuorum}
+use Rattle.site.specs.declared.AbortQuorum.{AbortQuorum}
 use Rattle.world.specs.declared.World.{World}
 use Rattle.world.specs.Sizes.{sizesNumber}
 use Rattle.world.specs.Worlds.{zeroWorld}
@@ -71,7 +73,7 @@ empty-safe n willing =
     }
 
 -- the run of sizes that are not refused
-new-safe : (n c a willing : ℕ) (store : List ℕ) (asks : List Ask) → sizesNumber n c a willing ≡ 0 →
+new-safe : (n : ℕ) (c : CommitQuorum) (a : AbortQuorum) (willing : ℕ) (store : List ℕ) (asks : List Ask) → sizesNumber n c a willing ≡ 0 →
     Safe n willing (run (newWorld n c a willing) store asks .records)
 unfolding newWorld
 new-safe n c a willing store asks e =

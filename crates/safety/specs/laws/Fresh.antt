@@ -10,6 +10,8 @@ use Rattle.choice.specs.laws.ChoiceLaws.{set-ind}
 use Rattle.vector.specs.Vector.{siteWeight}
 use Rattle.site.specs.declared.Site.{Site}
 use Rattle.site.specs.Fields.{blankSite}
+use Rattle.site.specs.declared.CommitQuorum.{CommitQuorum}
+use Rattle.site.specs.declared.AbortQuorum.{AbortQuorum}
 use Rattle.world.specs.declared.World.{World}
 use Rattle.world.specs.Sizes.{sizesNumber}
 use Rattle.world.specs.Worlds.{downSites, zeroWorld, freshSites, freshWorld, siteOf}
@@ -20,22 +22,22 @@ use Rattle.safety.specs.laws.TruthLaws.{zero-true}
 use Rattle.safety.specs.laws.Invariant.{Invariant}
 
 -- the world of sizes that are not refused
-unfoldable pub newWorld : ℕ → ℕ → ℕ → ℕ → World
+unfoldable pub newWorld : ℕ → CommitQuorum → AbortQuorum → ℕ → World
 newWorld n c a willing =
     record {
       sites = freshSites n;
       n = n;
-      commit = record { 0 = c };
-      abort = record { 0 = a };
+      commit = c;
+      abort = a;
       willing = willing;
       rows = 0;
     }
 
-pub fresh-new : (n c a willing : ℕ) → sizesNumber n c a willing ≡ 0 → freshWorld n c a willing ≡ newWorld n c a willing
+pub fresh-new : (n : ℕ) (c : CommitQuorum) (a : AbortQuorum) (willing : ℕ) → sizesNumber n c a willing ≡ 0 → freshWorld n c a willing ≡ newWorld n c a willing
 unfolding freshWorld newWorld
 fresh-new n c a willing e = rw (eq-eqb (sizesNumber n c a willing) 0 e)
 
-pub fresh-zero : (n c a willing : ℕ) → (sizesNumber n c a willing ≡ 0 → ⊥) → freshWorld n c a willing ≡ zeroWorld
+pub fresh-zero : (n : ℕ) (c : CommitQuorum) (a : AbortQuorum) (willing : ℕ) → (sizesNumber n c a willing ≡ 0 → ⊥) → freshWorld n c a willing ≡ zeroWorld
 unfolding freshWorld
 fresh-zero n c a willing e = rw (ne-eqb (sizesNumber n c a willing) 0 e)
 
@@ -86,11 +88,11 @@ empty-true t =
     }
 
 -- the invariant at the start
-pub new-invariant : (n c a willing : ℕ) (store : List ℕ) → n ≤ 16 → Invariant (newWorld n c a willing) store []
+pub new-invariant : (n : ℕ) (c : CommitQuorum) (a : AbortQuorum) (willing : ℕ) (store : List ℕ) → n ≤ 16 → Invariant (newWorld n c a willing) store []
 unfolding newWorld siteOf
 new-invariant n c a willing store few =
     record {
-      history = empty-true (record { n = n; weight = siteWeight; commit = c; abort = a; willing = willing });
+      history = empty-true (record { n = n; weight = siteWeight; commit = c .0; abort = a .0; willing = willing });
       sites = λ j less.
           fresh-blank (TrueSite n j []) (blank-true n j true few) (blank-true n j false few) n j few (omega arith);
       rows = λ k h. absurd (omega arith);

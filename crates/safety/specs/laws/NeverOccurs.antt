@@ -16,6 +16,8 @@ use Rattle.site.specs.declared.Site.{Site}
 use Rattle.site.specs.State.{stateOf}
 use Rattle.site.specs.Records.{Written}
 use Rattle.site.specs.Rules.{Noted, hear, adopt}
+use Rattle.site.specs.declared.CommitQuorum.{CommitQuorum}
+use Rattle.site.specs.declared.AbortQuorum.{AbortQuorum}
 use Rattle.command.specs.declared.Command.the-variants as Command·
 use Rattle.command.specs.declared.Delivery.{Delivery}
 use Rattle.command.specs.Commands.{readCommand, found}
@@ -91,7 +93,7 @@ delivered :
     (w : World) (store : List ℕ) (H : List Written) (k i : ℕ) → Invariant w store H → Delivering w k i →
     Delivered w store k i
 delivered w store H k i inv d =
-    let s : Sized (w .n) (w .commit .0) (w .abort .0) (w .willing) = valid-sized w (d .valid) in
+    let s : Sized (w .n) (w .commit) (w .abort) (w .willing) = valid-sized w (d .valid) in
     let more : totalWeight siteWeight (w .n) < w .commit .0 + w .abort .0 = omega (arith, total-sites (w .n)) in
     let row : Row = getRow store k in
     let true-row : TrueRow (w .n) H row = inv .rows k (d .row-below) in
@@ -114,7 +116,7 @@ delivered w store H k i inv d =
     }
 
 -- by the sizes: a new world, or the world of zeros, in which no call is accepted
-new-never : (n c a willing : ℕ) (store : List ℕ) (asks : List Ask) (ask : Ask) (d : Delivery) (next : ℕ) → n ≤ 16 →
+new-never : (n : ℕ) (c : CommitQuorum) (a : AbortQuorum) (willing : ℕ) (store : List ℕ) (asks : List Ask) (ask : Ask) (d : Delivery) (next : ℕ) → n ≤ 16 →
     readCommand (ask .list) (ask .place) ≡ found (Command·.Deliver d) next →
     callOf (run (newWorld n c a willing) store asks .world) (run (newWorld n c a willing) store asks .store) ask .number ≡ 0 →
     Delivered (run (newWorld n c a willing) store asks .world) (run (newWorld n c a willing) store asks .store) (d .row) (d .site)

@@ -15,6 +15,8 @@ use Rattle.site.specs.declared.Site.{Site}
 use Rattle.site.specs.Fields.{zeroVector, blankSite, withUp, withCoordinator, withPrepared, withGroup, withOutcome, withCodes}
 use Rattle.site.specs.Records.{withOwn, writePrepare, joinGroup, writeOutcome}
 use Rattle.site.specs.Rules.{Move, hear, keptVector}
+use Rattle.site.specs.declared.CommitQuorum.{CommitQuorum}
+use Rattle.site.specs.declared.AbortQuorum.{AbortQuorum}
 use Rattle.world.specs.declared.World.{World}
 use Rattle.world.specs.Sizes.{sizesNumber}
 use Rattle.world.specs.Worlds.{downSites, zeroWorld, freshSites, freshWorld, siteOf, withSite, withRows}
@@ -57,15 +59,15 @@ long-fresh (suc k) h j l =
     set-ind Long (freshSites k) k j (blankSite true) (blankSite false) (rw fresh-length (omega arith)) (λ _. long-blank true)
     (λ _. long-fresh k (omega arith) j l)
 
-pub shaped-fresh : (n c a willing : ℕ) → Shaped (freshWorld n c a willing)
+pub shaped-fresh : (n : ℕ) (c : CommitQuorum) (a : AbortQuorum) (willing : ℕ) → Shaped (freshWorld n c a willing)
 unfolding freshWorld zeroWorld siteOf freshSites
 shaped-fresh n c a willing =
     let made : World =
     record {
       sites = freshSites n;
       n = n;
-      commit = record { 0 = c };
-      abort = record { 0 = a };
+      commit = c;
+      abort = a;
       willing = willing;
       rows = 0;
     } in

@@ -19,7 +19,7 @@ use Rattle.choice.specs.laws.Cases.{by-equal}
 
 -- the three parts of 17
 pub record ValidParts (w : World) : Type 0 where
-  pub sizes : sizesNumber (w .n) (w .commit .0) (w .abort .0) (w .willing) ≡ 0
+  pub sizes : sizesNumber (w .n) (w .commit) (w .abort) (w .willing) ≡ 0
   pub rows : w .rows ≤ maxRows
   pub sites : (k : ℕ) → k < w .n → validSite k (w .n) (siteOf w k) ≡ true
 
@@ -41,12 +41,12 @@ pub valid-parts : (w : World) → validWorld w ≡ true → ValidParts w
 unfolding validWorld
 valid-parts w e =
     let rest : both (leb (w .rows) maxRows) (validSites (w .n) w) ≡ true =
-    both-second (eqb (sizesNumber (w .n) (w .commit .0) (w .abort .0) (w .willing)) 0)
+    both-second (eqb (sizesNumber (w .n) (w .commit) (w .abort) (w .willing)) 0)
     (both (leb (w .rows) maxRows) (validSites (w .n) w)) e in
     record {
       sizes =
-          eqb-true (sizesNumber (w .n) (w .commit .0) (w .abort .0) (w .willing)) 0
-          (both-first (eqb (sizesNumber (w .n) (w .commit .0) (w .abort .0) (w .willing)) 0)
+          eqb-true (sizesNumber (w .n) (w .commit) (w .abort) (w .willing)) 0
+          (both-first (eqb (sizesNumber (w .n) (w .commit) (w .abort) (w .willing)) 0)
           (both (leb (w .rows) maxRows) (validSites (w .n) w)) e);
       rows = leb-true (w .rows) maxRows (both-first (leb (w .rows) maxRows) (validSites (w .n) w) rest);
       sites = sites-each (w .n) w (both-second (leb (w .rows) maxRows) (validSites (w .n) w) rest);
@@ -55,14 +55,14 @@ valid-parts w e =
 pub valid-whole : (w : World) → ValidParts w → validWorld w ≡ true
 unfolding validWorld
 valid-whole w p =
-    both-on (eqb (sizesNumber (w .n) (w .commit .0) (w .abort .0) (w .willing)) 0)
+    both-on (eqb (sizesNumber (w .n) (w .commit) (w .abort) (w .willing)) 0)
     (both (leb (w .rows) maxRows) (validSites (w .n) w)) (eq-eqb _ 0 (p .sizes))
     (both-on (leb (w .rows) maxRows) (validSites (w .n) w) (le-leb (w .rows) maxRows (p .rows))
     (sites-all (w .n) w (p .sites)))
 
 -- the sizes of a world that passes 17
-pub valid-sized : (w : World) → validWorld w ≡ true → Sized (w .n) (w .commit .0) (w .abort .0) (w .willing)
-valid-sized w e = sized (w .n) (w .commit .0) (w .abort .0) (w .willing) (valid-parts w e .sizes)
+pub valid-sized : (w : World) → validWorld w ≡ true → Sized (w .n) (w .commit) (w .abort) (w .willing)
+valid-sized w e = sized (w .n) (w .commit) (w .abort) (w .willing) (valid-parts w e .sizes)
 
 -- a claim of a site of the world after site `own` is put back
 pub put-ind :

@@ -24,7 +24,7 @@ sizes-number-requires c κs = search needs
 
 returns-3 : tie.Need-returns-3
 unfolding headerNumber headerSizes
-returns-3 c = simp (le-ltb _ _ (c .before .before .if2 .left), le-ltb _ _ (c .before .before .before .if1 .left), ← (c .before .read-header .ensures)) (c .sizes-number .ensures)
+returns-3 c = simp (le-ltb _ _ (c .before .before .before .before .if2 .left), le-ltb _ _ (c .before .before .before .before .before .if1 .left), ← (c .before .before .before .read-header .ensures)) (c .sizes-number .ensures)
 
 pub header-number-spec : {M : Type 1} → statement M
 header-number-spec =

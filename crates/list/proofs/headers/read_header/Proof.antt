@@ -21,11 +21,11 @@ byte-at-requires-4 c κs = search needs
 byte-at-requires-5 : tie.Need-byte-at-requires-5
 byte-at-requires-5 c κs = search needs
 
-mul-t7 : tie.Need-mul-t7
-mul-t7 c = search needs
+mul-t9 : tie.Need-mul-t9
+mul-t9 c = search needs
 
-add-t8 : tie.Need-add-t8
-add-t8 c = search needs
+add-t10 : tie.Need-add-t10
+add-t10 c = search needs
 
 returns : tie.Need-returns
 unfolding headerOf
@@ -40,6 +40,6 @@ read-header-spec =
     byte-at-requires-3
     byte-at-requires-4
     byte-at-requires-5
-    mul-t7
-    add-t8
+    mul-t9
+    add-t10
     returns)

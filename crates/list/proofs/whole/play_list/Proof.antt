@@ -37,7 +37,7 @@ fresh-requires c κs = search needs
 
 play-commands-requires : tie.Need-play-commands-requires
 unfolding headerWorld
-play-commands-requires c κs = (rw (c .before .before .read-header .ensures) at (c .before .fresh .ensures), (sym (c .before .before .before .before .header-number .ensures) ∙ c .before .before .before .if2 .left), c .before .before .before .before .before .if1 .left)
+play-commands-requires c κs = (rw (c .before .before .before .before .read-header .ensures) at (c .before .fresh .ensures), (sym (c .before .before .before .before .before .before .header-number .ensures) ∙ c .before .before .before .before .before .if2 .left), c .before .before .before .before .before .before .before .if1 .left)
 
 same-length : tie.Need-same-length
 same-length c = search needs

@@ -29,11 +29,11 @@ only-site-requires c κs = search needs
 
 returns-4 : tie.Need-returns-4
 unfolding quorumsNumber onlySite
-returns-4 c = simp (← (c .before .only-site .ensures), le-leb _ _ (c .if4 .taken), lt-leb _ _ (c .before .before .if3 .left), lt-leb _ _ (c .before .before .before .if2 .left), lt-leb _ _ (c .before .before .before .before .if1 .left))
+returns-4 c = simp (← (c .before .only-site .ensures), le-leb _ _ (c .if4 .taken), lt-leb _ _ (c .before .before .if3 .left), lt-leb _ _ (c .before .before .before .before .before .if2 .left), lt-leb _ _ (c .before .before .before .before .before .before .before .if1 .left))
 
 returns-5 : tie.Need-returns-5
 unfolding quorumsNumber onlySite
-returns-5 c = simp (← (c .before .only-site .ensures), lt-leb _ _ (c .if4 .left), lt-leb _ _ (c .before .before .if3 .left), lt-leb _ _ (c .before .before .before .if2 .left), lt-leb _ _ (c .before .before .before .before .if1 .left))
+returns-5 c = simp (← (c .before .only-site .ensures), lt-leb _ _ (c .if4 .left), lt-leb _ _ (c .before .before .if3 .left), lt-leb _ _ (c .before .before .before .before .before .if2 .left), lt-leb _ _ (c .before .before .before .before .before .before .before .if1 .left))
 
 pub quorums-number-spec : {M : Type 1} → statement M
 quorums-number-spec =
