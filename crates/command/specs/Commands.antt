@@ -4,7 +4,7 @@ use Prim.Native.Nat.{ℕ, _+_, _*_}
 use mathlib.Core.List.{List}
 use lib.Dec.{ltb, leb, eqb}
 use lib.ListN.{length, getD}
-use Rattle.choice.specs.Choice.{pick}
+use Rattle.choice.specs.Choice.{pick, both}
 use Rattle.command.specs.declared.Delivery.{Delivery}
 use Rattle.command.specs.declared.Target.{Target}
 use Rattle.command.specs.declared.Command.{Command}
@@ -55,3 +55,16 @@ readCommand list at = pick (ltb at (length list)) (readByte (getD list at 0) lis
 unfoldable pub refusalOf : Reading → Refusal
 refusalOf (Reading·.Refused r) = r
 refusalOf (Reading·.Found p) = record { number = 0; place = p .next }
+
+-- how many operand bytes follow a command byte of 1 to 5
+unfoldable pub operandBytes : ℕ → ℕ
+operandBytes byte = pick (eqb byte 1) 0 (pick (eqb byte 2) 3 1)
+
+-- the same number and place, said of the list's bytes: 6 none left or not 1 to 5; 7 operands cut short; 0 with the place after them
+unfoldable pub refusalAt : List ℕ → ℕ → Refusal
+refusalAt list at =
+    pick (both (ltb at (length list)) (both (leb 1 (getD list at 0)) (leb (getD list at 0) 5)))
+    (pick (leb (at + (1 + operandBytes (getD list at 0))) (length list))
+    (record { number = 0; place = at + (1 + operandBytes (getD list at 0)) })
+    (record { number = 7; place = at }))
+    (record { number = 6; place = at })

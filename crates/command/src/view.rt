@@ -4,7 +4,7 @@
 ghost use mathlib.Core.Path.{_≡_};
 ghost use Prim.Native.Nat.{_<_};
 ghost use lib.ListN.{getD};
-ghost use Rattle.command.specs.Commands.{readCommand};
+ghost use Rattle.command.specs.Commands.{readCommand, refusalOf, refusalAt};
 use crate::Reading;
 use crate::reader::byte_of;
 use crate::reader::read_at;
@@ -34,16 +34,16 @@ pub fn byte_at(list: &[u8], at: usize) -> usize
     byte_in(look_at(list, at))
 }
 
-// The command at the view's place.
+// The command at the view's place: the answer itself, and which number and place it stands for.
 pub fn command_in<'a>(v: View<'a>) -> Reading
-    ensures { λ r. ⌜ r ≡ readCommand (now (v .entry .list)) (v .entry .at) ⌝ }
+    ensures { λ r. ⌜ (r ≡ readCommand (now (v .entry .list)) (v .entry .at)) × (refusalOf r ≡ refusalAt (now (v .entry .list)) (v .entry .at)) ⌝ }
 {
     read_at(v.list, v.at)
 }
 
 // The command at a place of a list.
 pub fn read_command(list: &[u8], at: usize) -> Reading
-    ensures { λ r. ⌜ r ≡ readCommand (now (list .entry)) at ⌝ }
+    ensures { λ r. ⌜ (r ≡ readCommand (now (list .entry)) at) × (refusalOf r ≡ refusalAt (now (list .entry)) at) ⌝ }
 {
     command_in(look_at(list, at))
 }

@@ -38,7 +38,8 @@ use denote.Triple.Table.{entered, cited}
 use denote.Triple.Walked.{says, Stays, stay-none, stay-none-slice, walkOf, goes-none, goes-none-slice, Walks, ends-at, walked, walk-meets}
 use denote.Exit.{yes}
 use denote.Triple.Clauses.{ensured, lasts}
-use Rattle.command.specs.Commands.{readCommand}
+use Rattle.command.specs.Commands.{readCommand, refusalOf, refusalAt}
+use Rattle.command.specs.laws.CommandLaws.{reading-refusal}
 use Rattle.command.specs.declared.view.View.{View}
 use Rattle.command.specs.declared.Reading.{Reading}
 use Rattle.command.proofs.view.View as T
@@ -114,13 +115,13 @@ module _ {M : Type 1} (𝓤 : URA M) (H : Heap 𝓤) (A : Atoms 𝓤) (W : Given
   goes-command-in : (r : View) (u : Val) → ent 𝓤 (⋆ 𝓤 H A (‵ (B (κ, tt) .own r (u ∷ [])) ∷ (‵ (flft κ q) ⊛ ‵ ftrue) ∷ [])) (CommandIn 𝓤 H A mem run .pre (to-command-in r u))
   goes-command-in r u = qed W (‵ (B (κ, tt) .own r (u ∷ [])) ∷ (‵ (flft κ q) ⊛ ‵ ftrue) ∷ []) ∵ nothing ! $ move ! (1 ∷ 0 ∷ []) $ fjoin ! $ move ! (1 ∷ 0 ∷ []) $ join ! $ frame ! $ done !
 
-  command-in-said : (r : View) (t : Reading) → ent 𝓤 (ensured 𝓤 H A command-in.ended (command-in.clauses 𝓤 H A mem run) (κ, tt) (r, tt) tt t) (fact 𝓤 (t ≡ readCommand (now (r .list)) (r .at)))
-  command-in-said r t = exE 𝓤 _ (λ ws. snd∗ 𝓤 (sem 𝓤 H A (lasts command-in.ended (κ, tt) (r, tt) ws)) (fact 𝓤 (t ≡ readCommand (now (r .list)) (r .at))))
+  command-in-said : (r : View) (t : Reading) → ent 𝓤 (ensured 𝓤 H A command-in.ended (command-in.clauses 𝓤 H A mem run) (κ, tt) (r, tt) tt t) (fact 𝓤 ((t ≡ readCommand (now (r .list)) (r .at)) × (refusalOf t ≡ refusalAt (now (r .list)) (r .at))))
+  command-in-said r t = exE 𝓤 _ (λ ws. snd∗ 𝓤 (sem 𝓤 H A (lasts command-in.ended (κ, tt) (r, tt) ws)) (fact 𝓤 ((t ≡ readCommand (now (r .list)) (r .at)) × (refusalOf t ≡ refusalAt (now (r .list)) (r .at)))))
 
   exits : (t : Reading) (u : Val) → t ≡ found → ent 𝓤 (⋆ 𝓤 H A (‵ (S.the-row .own t (u ∷ [])) ∷ (‵ (flft κ q) ⊛ ‵ ftrue) ∷ ‵ Own ∷ [])) (Post u)
   exits t u e =
       qed W (‵ (S.the-row .own t (u ∷ [])) ∷ (‵ (flft κ q) ⊛ ‵ ftrue) ∷ ‵ Own ∷ []) ∵
-      suffices ! _ (ends-at 𝓤 H A read-command.ended stayed (read-command.clauses 𝓤 H A mem run) W (((κ, tt), (q, tt), tt, (s, (n, tt)), at), tt) u t (tt, (tt, tt)) (tt, (tt, tt))) $ says ! e $
+      suffices ! _ (ends-at 𝓤 H A read-command.ended stayed (read-command.clauses 𝓤 H A mem run) W (((κ, tt), (q, tt), tt, (s, (n, tt)), at), tt) u t (tt, (tt, tt)) (tt, (tt, tt))) $ says ! (e, ap refusalOf e ∙ reading-refusal (now s) n) $
       move ! (1 ∷ []) $ frame ! $ nothing ! $ owned ! usize (Is usize) (uint-makes 𝓤 H A W w64) n _ (refl, ok) $ fjoin ! $ move ! (2 ∷ 0 ∷ []) $ fjoin ! $ frame ! $ done !
 
   module _ (C : Calls 𝓤 H) (Λ : Loops 𝓤 H) (fm : FmC 𝓤 H (W .laws) C) (known-look-at : Triple 𝓤 (C #command·view·look-at) (LookAt 𝓤 H A mem run)) (known-command-in : Triple 𝓤 (C #command·view·command-in) (CommandIn 𝓤 H A mem run)) where
@@ -138,13 +139,13 @@ module _ {M : Type 1} (𝓤 : URA M) (H : Heap 𝓤) (A : Atoms 𝓤) (W : Given
         use2 W (raw (CommandIn 𝓤 H A mem run .pre (to-command-in r u))) (goes-command-in r u) $
         calls-at ! fm (CommandIn 𝓤 H A mem run) known-command-in (to-command-in r u) (and-then ! (load ! (from ! (stop !)) (look ! 2 refl)) (no-more !)) (λ u′.
         use1 W (later (some (λ (t : Reading). ((‵ (flft κ q) ⊛ ‵ ftrue) ⊛ ‵ (S.the-row .own t (u′ ∷ []))) ⊛ raw (ensured 𝓤 H A command-in.ended (command-in.clauses 𝓤 H A mem run) (κ, tt) (r, tt) tt t)))) (id⊢ 𝓤 _) $ await ! tt $ pick ! (λ t.
-        split ! $ move ! (1 ∷ []) $ use1 W (raw (fact 𝓤 (t ≡ readCommand (now (r .list)) (r .at)))) (command-in-said r t) $ heard ! (t ≡ readCommand (now (r .list)) (r .at)) (λ e′. split ! $ move ! (1 ∷ []) $
+        split ! $ move ! (1 ∷ []) $ use1 W (raw (fact 𝓤 ((t ≡ readCommand (now (r .list)) (r .at)) × (refusalOf t ≡ refusalAt (now (r .list)) (r .at))))) (command-in-said r t) $ heard ! ((t ≡ readCommand (now (r .list)) (r .at)) × (refusalOf t ≡ refusalAt (now (r .list)) (r .at))) (λ e′. split ! $ move ! (1 ∷ []) $
         -- [the result; the token; what s owns; _3; …; _2; …; _1; …; room for _0; …]
         peeks ! S.the-row (Is S.the-row) (shows 𝓤 H A S.the-row) t (u′ ∷ []) (λ is′.
         land ! (from ! (stop !)) (init ! 9 refl (EL.lawful S.the-type S′.the-laws 𝓤 H A W tt .typed t _ is′ .0)) $
         returns ! (look ! 9 refl) $ forget ! 3 refl $ forget ! 5 refl $ forget ! 7 refl $ forget ! 9 refl $
         move ! (9 ∷ 10 ∷ []) $ free1 ! $ move ! (7 ∷ 8 ∷ []) $ free1 ! $ move ! (5 ∷ 6 ∷ []) $ free1 ! $ move ! (3 ∷ 4 ∷ []) $ free1 ! $ free0 ! $
-        by ! (exits t u′ (e′ ∙ (ap (λ (x : RefT (List ℕ)). readCommand (now x) (r .at)) (e .0) ∙ ap (readCommand (now s)) (e .1))))))))))))))))
+        by ! (exits t u′ (e′ .0 ∙ (ap (λ (x : RefT (List ℕ)). readCommand (now x) (r .at)) (e .0) ∙ ap (readCommand (now s)) (e .1))))))))))))))))
 
 module _ {M : Type 1} (𝓤 : URA M) (H : Heap 𝓤) (A : Atoms 𝓤) (W : Given 𝓤 H A) (mem : Memory → SProp 𝓤) (run : Routine → Fun 𝓤) where
   read-command-walks : (C : Calls 𝓤 H) (Λ : Loops 𝓤 H) → FmC 𝓤 H (W .laws) C → Triple 𝓤 (C #command·view·look-at) (LookAt 𝓤 H A mem run) → Triple 𝓤 (C #command·view·command-in) (CommandIn 𝓤 H A mem run)

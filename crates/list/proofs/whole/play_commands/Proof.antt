@@ -70,7 +70,7 @@ returns c =
     let i = c .before .before .before .before .before .before .before .before .before .before .before .loop .inv .0 in
     let t = c .before .before .before .before .act in
     let own = c .before .before .before .before .before .before .before .before .actor in
-    changes-out w (t .result) (t .last .1 .1 .1 .0) i (c .before .before .before .before .before .before .before .before .before .before .loop-test .taken) (c .before .before .before .before .before .before .before .before .before .read-command .ensures) (own .ensures .0)
+    changes-out w (t .result) (t .last .1 .1 .1 .0) i (c .before .before .before .before .before .before .before .before .before .before .loop-test .taken) (c .before .before .before .before .before .before .before .before .before .read-command .ensures .0) (own .ensures .0)
     (siteOf-within w (own .result) _ (omega (arith, own .ensures .1, may-act w i .high, i .shaped .sites)))
     (rw (c .before .before .before .before .before .before .head-of .ensures) at (t .ensures)) (c .if1 .taken) in
     (o .played, o .kept)
@@ -97,7 +97,7 @@ loop-less c =
     let i = c .before .before .before .before .before .before .before .before .before .before .before .before .loop .inv .0 in
     let t = c .before .before .before .before .before .act in
     let own = c .before .before .before .before .before .before .before .before .before .actor in
-    changes-past w (t .result) (t .last .1 .1 .1 .0) i (c .before .before .before .before .before .before .before .before .before .before .before .loop-test .taken) (c .before .before .before .before .before .before .before .before .before .before .read-command .ensures) (own .ensures .0)
+    changes-past w (t .result) (t .last .1 .1 .1 .0) i (c .before .before .before .before .before .before .before .before .before .before .before .loop-test .taken) (c .before .before .before .before .before .before .before .before .before .before .read-command .ensures .0) (own .ensures .0)
     (siteOf-within w (own .result) _ (omega (arith, own .ensures .1, may-act w i .high, i .shaped .sites)))
     (rw (c .before .before .before .before .before .before .before .head-of .ensures) at (t .ensures)) (c .before .if1 .left) in
     omega arith
@@ -110,7 +110,7 @@ loop-again c = (
       let i = c .before .before .before .before .before .before .before .before .before .before .before .before .loop .inv .0 in
       let t = c .before .before .before .before .before .act in
       let own = c .before .before .before .before .before .before .before .before .before .actor in
-      changes-on w (t .result) (t .last .1 .1 .1 .0) i (c .before .before .before .before .before .before .before .before .before .before .before .loop-test .taken) (c .before .before .before .before .before .before .before .before .before .before .read-command .ensures) (own .ensures .0)
+      changes-on w (t .result) (t .last .1 .1 .1 .0) i (c .before .before .before .before .before .before .before .before .before .before .before .loop-test .taken) (c .before .before .before .before .before .before .before .before .before .before .read-command .ensures .0) (own .ensures .0)
       (siteOf-within w (own .result) _ (omega (arith, own .ensures .1, may-act w i .high, i .shaped .sites)))
       (rw (c .before .before .before .before .before .before .before .head-of .ensures) at (t .ensures)) (c .before .if1 .left),
   omega arith,

@@ -53,7 +53,7 @@ same-length c = search needs
 -- src/perform.rt:13:1
 returns : tie.Need-returns
 unfolding headOf worldOf changed
-returns c = simp (c .put-rows .ensures, c .before .put-site .ensures) (acts-played (c .before .before .before .before .before .before .before .before .before .before .before .before .before .args .world .sites) (headOf (c .before .before .before .before .before .before .before .before .before .before .before .before .before .args .world)) (now (c .before .before .before .before .before .before .before .before .before .before .before .before .before .args .store)) (now (c .before .before .before .before .before .before .before .before .before .before .before .before .before .args .list)) (c .before .before .before .before .before .before .before .before .before .before .before .before .before .args .at) (c .before .before .before .before .before .before .before .before .before .before .read-command .result) (c .before .before .before .before .before .before .before .before .before .actor .result) (c .before .before .before .before .before .before .before .site .result) (c .before .before .before .before .before .act .result) (c .before .before .before .before .before .act .last .1 .1 .1 .0) (c .before .before .before .before .before .before .before .before .before .before .read-command .ensures) (c .before .before .before .before .before .before .before .before .before .actor .ensures .0) (c .before .before .before .before .before .before .before .site .ensures) (rw (c .before .before .before .before .before .before .before .before .head-of .ensures) at (c .before .before .before .before .before .act .ensures)))
+returns c = simp (c .put-rows .ensures, c .before .put-site .ensures) (acts-played (c .before .before .before .before .before .before .before .before .before .before .before .before .before .args .world .sites) (headOf (c .before .before .before .before .before .before .before .before .before .before .before .before .before .args .world)) (now (c .before .before .before .before .before .before .before .before .before .before .before .before .before .args .store)) (now (c .before .before .before .before .before .before .before .before .before .before .before .before .before .args .list)) (c .before .before .before .before .before .before .before .before .before .before .before .before .before .args .at) (c .before .before .before .before .before .before .before .before .before .before .read-command .result) (c .before .before .before .before .before .before .before .before .before .actor .result) (c .before .before .before .before .before .before .before .site .result) (c .before .before .before .before .before .act .result) (c .before .before .before .before .before .act .last .1 .1 .1 .0) (c .before .before .before .before .before .before .before .before .before .before .read-command .ensures .0) (c .before .before .before .before .before .before .before .before .before .actor .ensures .0) (c .before .before .before .before .before .before .before .site .ensures) (rw (c .before .before .before .before .before .before .before .before .head-of .ensures) at (c .before .before .before .before .before .act .ensures)))
 
 pub play-command-spec : {M : Type 1} → statement M
 play-command-spec =
