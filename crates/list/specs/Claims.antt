@@ -1,15 +1,19 @@
 -- What is claimed of playing a whole list.
 use Prim.Native.Nat.{ℕ, _+_, _≤_}
-use mathlib.Core.List.{List, [], _∷_}
+use mathlib.Core.List.{List, [], _∷_, _++_}
 use mathlib.Core.Path.{_≡_}
 use lib.Dec.{eqb}
-use lib.ListN.{length}
+use lib.ListN.{length, getD}
 use Rattle.choice.specs.Choice.{pick}
+use Rattle.row.specs.Rows.{rowPlace}
 use Rattle.site.specs.Records.{Written}
+use Rattle.command.specs.declared.Command.the-variants as Command·
+use Rattle.command.specs.declared.Delivery.{Delivery}
+use Rattle.command.specs.Commands.{readCommand, found}
 use Rattle.world.specs.declared.World.{World}
 use Rattle.world.specs.Sizes.{storeBytes}
-use Rattle.play.specs.Run.{Ask, run}
-use Rattle.safety.specs.Claims.{Safe}
+use Rattle.play.specs.Run.{Ask, Ran, run, callOf}
+use Rattle.safety.specs.Claims.{Safe, Delivered}
 use Rattle.list.specs.Play.{Play, headerOf, headerNumber, headerWorld, playList, askAt}
 
 -- each call is of the list itself
@@ -46,3 +50,36 @@ pub record Ends (list : List ℕ) (p : Play) : Type 0 where
 
 abbrev pub ListEnds : Type 0
 ListEnds = (store list : List ℕ) → Ends list (playList store list)
+
+-- calls that follow on, from a world, a store and a place: each begins where the one before ended, and all but the last are accepted
+unfoldable pub FollowOn : World → List ℕ → ℕ → List Ask → Type 0
+FollowOn w store at [] = Unit
+FollowOn w store at (a ∷ []) = a .place ≡ at
+FollowOn w store at (a ∷ b ∷ asks) =
+    (a .place ≡ at) × (callOf w store a .number ≡ 0)
+    × FollowOn (callOf w store a .world) (callOf w store a .store) (callOf w store a .place) (b ∷ asks)
+
+-- a list's calls follow on, from its header's fresh world and the first command's place
+abbrev pub ListFollowsOn : Type 0
+ListFollowsOn = (store list : List ℕ) → FollowOn (headerWorld list) store 5 (playList store list .asks)
+
+-- a list's world and store after the first calls of its play
+abbrev pub listRun : List ℕ → List ℕ → List Ask → Ran
+listRun store list first = run (headerWorld list) store first
+
+-- neither conflict nor a join commit at an active site occurs in a played list: whichever of its calls is an accepted delivery
+abbrev pub ListNeverOccurs : Type 0
+ListNeverOccurs =
+    (store list : List ℕ) (first rest : List Ask) (ask : Ask) (d : Delivery) (next : ℕ) →
+    playList store list .asks ≡ first ++ (ask ∷ rest) →
+    readCommand (ask .list) (ask .place) ≡ found (Command·.Deliver d) next →
+    callOf (listRun store list first .world) (listRun store list first .store) ask .number ≡ 0 →
+    Delivered (listRun store list first .world) (listRun store list first .store) (d .row) (d .site)
+
+-- the store keeps its length, and beyond the last row its bytes
+pub record KeptBeyond (store : List ℕ) (p : Play) : Type 0 where
+  pub same-length : length (p .store) ≡ length store
+  pub same-bytes : (b : ℕ) → rowPlace (p .played .world .rows) ≤ b → getD (p .store) b 0 ≡ getD store b 0
+
+abbrev pub ListKeepsBeyond : Type 0
+ListKeepsBeyond = (store list : List ℕ) → KeptBeyond store (playList store list)

@@ -8,7 +8,7 @@ use lib.ListN.{length, getD}
 use Rattle.choice.specs.Choice.{pick, both}
 use Rattle.row.specs.Bits.{hasBit}
 use Rattle.row.specs.Rows.{getRow, rowPlace}
-use Rattle.site.specs.State.{stateOf, isActive}
+use Rattle.site.specs.State.{stateOf, codeOf, isActive}
 use Rattle.site.specs.Records.{Written, recordCode}
 use Rattle.site.specs.Rules.{hear, adopt}
 use Rattle.site.specs.declared.CommitQuorum.{CommitQuorum}
@@ -129,3 +129,25 @@ abbrev pub ValidStaysValid : Type 0
 ValidStaysValid =
     (w : World) (store list : List ℕ) (at : ℕ) → Shaped w → validWorld w ≡ true →
     oneCommand w store list at .number ≡ 0 → validWorld (oneCommand w store list at .world) ≡ true
+
+-- what a world that passes 17 is known to be: at each of the n sites the own entry is the state, and the entries from n up are 0
+pub record Passes (w : World) : Type 0 where
+  pub valid : validWorld w ≡ true
+  pub own-is-state : (j : ℕ) → j < w .n → getD (siteOf w j .codes) j 0 ≡ codeOf (stateOf (siteOf w j))
+  pub none-beyond : (j k : ℕ) → j < w .n → w .n ≤ k → k < 16 → getD (siteOf w j .codes) k 0 ≡ 0
+
+-- THEOREM 5: every world of a run from a fresh world, of sizes that the maker accepts, passes 17
+abbrev pub RunsPass : Type 0
+RunsPass =
+    (n : ℕ) (c : CommitQuorum) (a : AbortQuorum) (willing : ℕ) (store : List ℕ) (asks : List Ask) →
+    sizesNumber n c a willing ≡ 0 → Passes (freshRun n c a willing store asks .world)
+
+-- over a run the rows grow, and the store keeps its length and its bytes beyond the last row
+pub record Beyond (w : World) (store : List ℕ) (r : Ran) : Type 0 where
+  pub rows-grow : w .rows ≤ r .world .rows
+  pub same-length : length (r .store) ≡ length store
+  pub same-bytes : (b : ℕ) → rowPlace (r .world .rows) ≤ b → getD (r .store) b 0 ≡ getD store b 0
+
+-- THEOREM 6: over every list of calls, from any world and store
+abbrev pub RunsKeepBeyond : Type 0
+RunsKeepBeyond = (w : World) (store : List ℕ) (asks : List Ask) → Beyond w store (run w store asks)

@@ -19,3 +19,6 @@ pub mod Fresh
 pub mod Runs
 pub mod Demand3
 pub mod NeverOccurs
+pub mod FreshValid
+pub mod RunWorlds
+pub mod RunStores

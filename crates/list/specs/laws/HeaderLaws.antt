@@ -14,7 +14,7 @@ use Rattle.world.specs.Valid.{validWorld}
 use Rattle.safety.specs.Claims.{Shaped}
 use Rattle.safety.specs.laws.Shape.{shaped-fresh}
 use Rattle.list.specs.Play.{headerOf, headerSizes, headerNumber, headerWorld, playFrom, playList}
-use Rattle.list.specs.laws.FreshValid.{fresh-valid}
+use Rattle.safety.specs.laws.FreshValid.{fresh-valid}
 use Rattle.list.specs.laws.PlayLaws.{enough, rest}
 
 -- a header that none of 1 to 5 refuses

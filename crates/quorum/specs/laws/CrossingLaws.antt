@@ -35,7 +35,7 @@ use Rattle.quorum.specs.Crossing.{Holds, ListCrosses, CommandCrosses, Sm
 -- a world that passes 17 has numbers that fit their fields
 valid-fits : (w : World) → Shaped w → validWorld w ≡ true → Fits w
 valid-fits w shaped valid =
-    let z : Sized (w .n) (w .commit .0) (w .abort .0) (w .willing) = valid-sized w valid in
+    let z : Sized (w .n) (w .commit) (w .abort) (w .willing) = valid-sized w valid in
     record {
       sites = shaped .sites;
       codes = shaped .codes;

@@ -55,7 +55,7 @@ pub record SmallSizes (w : World) : Type 0 where
 
 pub small-sizes : (w : World) → validWorld w ≡ true → SmallSizes w
 small-sizes w e =
-    let s : Sized (w .n) (w .commit .0) (w .abort .0) (w .willing) = valid-sized w e in
+    let s : Sized (w .n) (w .commit) (w .abort) (w .willing) = valid-sized w e in
     record {
       sites-small = s .high;
       commit-small = omega arith;

@@ -1,0 +1,58 @@
+-- Theorem 5: every world of a run from a fresh world passes 17.
+use Prim.Native.Nat.{ℕ, _<_}
+use mathlib.Core.Bool.{true}
+use mathlib.Core.List.{List, [], _∷_}
+use mathlib.Core.Path.{_≡_}
+use native.Mathlib.Omega.{arith}
+use Rattle.choice.specs.laws.Cases.{by-equal}
+use Rattle.world.specs.declared.World.{World}
+use Rattle.world.specs.Worlds.{freshWorld, siteOf}
+use Rattle.world.specs.Valid.{validWorld}
+use Rattle.world.specs.laws.WorldLaws.{valid-parts, valid-sized}
+use Rattle.play.specs.Commands.{oneCommand}
+use Rattle.play.specs.Run.{Ask, run, callOf, afterCall}
+use Rattle.safety.specs.Claims.{Shaped, Passes, RunsPass}
+use Rattle.safety.specs.laws.Unchanging.{refused-changes-nothing}
+use Rattle.safety.specs.laws.Shape.{long-of, shaped-fresh, shaped-kept}
+use Rattle.safety.specs.laws.SoundSites.{SoundSite, site-sound}
+use Rattle.safety.specs.laws.Validity.{valid-stays-valid}
+use Rattle.safety.specs.laws.FreshValid.{fresh-valid}
+
+-- a world of sixteen sites that passes 17
+record Whole (w : World) : Type 0 where
+  shaped : Shaped w
+  valid : validWorld w ≡ true
+
+call-whole : (w : World) (store : List ℕ) (a : Ask) → Whole w → Whole (callOf w store a .world)
+unfolding callOf
+call-whole w store a whole =
+    record {
+      shaped = shaped-kept w store (a .list) (a .place) (whole .shaped);
+      valid =
+          by-equal (oneCommand w store (a .list) (a .place) .number) 0
+          (valid-stays-valid w store (a .list) (a .place) (whole .shaped) (whole .valid))
+          (λ e. rw (refused-changes-nothing w store (a .list) (a .place) e .world-same) (whole .valid));
+    }
+
+run-whole : (w : World) (store : List ℕ) (asks : List Ask) → Whole w → Whole (run w store asks .world)
+unfolding run afterCall
+run-whole w store [] whole = whole
+run-whole w store (a ∷ asks) whole =
+    run-whole (callOf w store a .world) (callOf w store a .store) asks (call-whole w store a whole)
+
+whole-passes : (w : World) → Whole w → Passes w
+whole-passes w whole =
+    let sound : (j : ℕ) → j < w .n → SoundSite j (w .n) (siteOf w j) =
+    λ j h. site-sound j (w .n) (siteOf w j) (long-of w (whole .shaped) j (omega (arith, valid-sized w (whole .valid))))
+    (valid-parts w (whole .valid) .sites j h) in
+    record {
+      valid = whole .valid;
+      own-is-state = λ j h. sound j h .own-code;
+      none-beyond = λ j k h past few. sound j h .codes .at k few .none past;
+    }
+
+pub runs-pass : RunsPass
+runs-pass n c a willing store asks e =
+    whole-passes (run (freshWorld n c a willing) store asks .world)
+    (run-whole (freshWorld n c a willing) store asks
+    (record { shaped = shaped-fresh n c a willing; valid = fresh-valid n c a willing e }))
