@@ -1,5 +1,10 @@
-// A case's line, and the ways in which a case is played.
+// A case's line, and the ways in which a case is played. What only prints gives nothing back; the rest promises what it gives.
 ghost use Prim.Native.Nat.{_<_};
+ghost use mathlib.Core.Bool.{false};
+ghost use mathlib.Core.Path.{_≡_};
+ghost use lib.ListN.{set};
+ghost use Rattle.site.specs.Fields.{blankSite};
+ghost use Rattle.world.specs.Worlds.{freshWorld, withSite, withRows};
 use list::ListPlayed;
 use play::Played;
 use site::AbortQuorum;
@@ -106,25 +111,32 @@ pub fn day(name: &[u8], list: &[u8], expected: &[u8]) {
 }
 
 // A byte stored, if it is in the buffer.
-pub fn set(buffer: &mut [u8], at: usize, byte: u8) {
+pub fn put(buffer: &mut [u8], at: usize, byte: u8)
+    ensures { λ _. ⌜ now (buffer .exit) ≡ set (now (buffer .entry)) at byte ⌝ }
+{
     if at < buffer.len() {
         buffer[at] = byte;
     }
 }
 
 // Three sites, C = A = 2, all willing.
-pub fn fresh() -> World {
+pub fn fresh() -> World
+    ensures { λ r. ⌜ r ≡ freshWorld 3 (record { 0 = 2 }) (record { 0 = 2 }) 7 ⌝ }
+{
     World::fresh(3, CommitQuorum(2), AbortQuorum(2), 7)
 }
 
 // The same with no room for another row.
-pub fn full() -> World {
+pub fn full() -> World
+    ensures { λ r. ⌜ r ≡ withRows 1024 (freshWorld 3 (record { 0 = 2 }) (record { 0 = 2 }) 7) ⌝ }
+{
     fresh().put_rows(World::ROWS)
 }
 
 // A site of the three is down.
 pub fn down(i: usize) -> World
     requires { ⌜ i < 16 ⌝ }
+    ensures { λ r. ⌜ r ≡ withSite i (blankSite false) (freshWorld 3 (record { 0 = 2 }) (record { 0 = 2 }) 7) ⌝ }
 {
     fresh().put_site(i, Site::blank(false))
 }

@@ -1,6 +1,6 @@
 // Numbers 1, 6, 7, 15 and 16 in a whole list.
 use case_line::list;
-use case_line::set;
+use case_line::put;
 use case_line::verdict;
 
 pub fn cases() {
@@ -20,20 +20,20 @@ pub fn cases() {
 fn fill(list: &mut [u8]) {
     let mut at = 6;
     while at < 32766 {
-        set(list, at, 4);
-        set(list, at + 2, 5);
+        put(list, at, 4);
+        put(list, at + 2, 5);
         at += 4;
     }
-    set(list, 32766, 4);
+    put(list, 32766, 4);
 }
 
 // A header of n 3, C 2, A 2, all willing.
 fn head(list: &mut [u8]) {
-    set(list, 0, 3);
-    set(list, 1, 2);
-    set(list, 2, 2);
-    set(list, 3, 7);
-    set(list, 4, 0);
+    put(list, 0, 3);
+    put(list, 1, 2);
+    put(list, 2, 2);
+    put(list, 3, 7);
+    put(list, 4, 0);
 }
 
 fn longest() {

@@ -4,7 +4,7 @@ use case_line::command;
 use case_line::down;
 use case_line::fresh;
 use case_line::full;
-use case_line::set;
+use case_line::put;
 use case_line::told;
 use world::World;
 
@@ -39,10 +39,10 @@ fn deliver(name: &[u8], world: World, head: [u8; 3], at: usize, code: u8, site: 
     requires { ⌜ at < 16 ⌝ }
 {
     let mut store = [0; 20480];
-    set(&mut store, 0, head[0]);
-    set(&mut store, 1, head[1]);
-    set(&mut store, 2, head[2]);
-    set(&mut store, 4 + at, code);
+    put(&mut store, 0, head[0]);
+    put(&mut store, 1, head[1]);
+    put(&mut store, 2, head[2]);
+    put(&mut store, 4 + at, code);
     send(name, world, &mut store, site, number);
 }
 

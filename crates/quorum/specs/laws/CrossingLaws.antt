@@ -50,7 +50,7 @@ valid-fits w shaped valid =
 -- the world of zeros fits too: it is the maker's for sizes 0
 zero-shaped : Shaped zeroWorld
 unfolding freshWorld sizesNumber
-zero-shaped = shaped-fresh 0 0 0 0
+zero-shaped = shaped-fresh 0 (record { 0 = 0 }) (record { 0 = 0 }) 0
 
 zero-fits : Fits zeroWorld
 unfolding zeroWorld
