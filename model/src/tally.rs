@@ -6,7 +6,8 @@ use std::fmt;
 use crate::command::Command;
 use crate::play::{play_command, play_list_by, Played};
 use crate::row::STORE_BYTES;
-use crate::site::{Side, Site, State};
+use crate::site::Site;
+use crate::state::{Side, State};
 use crate::world::{World, MAX_ROWS};
 
 /// Things that a list can lead to.

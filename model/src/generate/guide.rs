@@ -1,11 +1,12 @@
 //! A list that grows along a world, so that its commands are accepted.
 
-use super::Rng;
+use super::rng::Rng;
 use crate::command::{Ask, Command};
 use crate::play::play_command;
 use crate::row::{Row, STORE_BYTES};
-use crate::site::{Side, Site, State};
+use crate::site::Site;
 use crate::sizes::Sizes;
+use crate::state::{Side, State};
 use crate::world::{World, MAX_ROWS};
 
 /// A row and a site it goes to.

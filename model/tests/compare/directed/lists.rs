@@ -7,7 +7,7 @@ use model::sizes::{HEADER_BYTES, MAX_LIST};
 use model::world::MAX_ROWS;
 use model::Command;
 
-use super::{deliver, Done};
+use super::shared::{deliver, Done};
 use crate::common::{header, rows_of_site_0, three, M3_LIST};
 use crate::comparer::{Comparer, Lengths, USUAL};
 
