@@ -63,8 +63,7 @@ static void begin(struct competition *c, uint64_t seed)
     for (c->length = 0; c->length < sizeof header; c->length++)
         c->list[c->length] = header[c->length];
     stop_if_refused(qc_play_list(c->list, c->length, c->store, sizeof c->store, c->world, sizeof c->world, result, sizeof result), "header");
-    c->random = seed * 2654435769u;
-    draw(c, 1);
+    c->random = seed;
 }
 
 /* Puts a row under way to each of its sites. Nobody waits for an acknowledgement, so those are left alone. */

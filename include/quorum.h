@@ -3,8 +3,9 @@
  * Link with target/staticlib/libquorum.a (x86-64 Linux). include/quorum_read.h, beside this file, reads worlds, rows and results.
  *
  * WHAT THIS IS. One world holds ALL sites of one competition, in one process, and events are played on it: a message arrives, a site has waited
- * long enough, crashes or comes back. The caller chooses the events; the library says what each does, and no choice of events can end in two
- * outcomes. It is not (yet) a single site's part in a networked program: there is no call that takes one site and the messages of the others.
+ * long enough, crashes or comes back. The caller chooses the events; the library says what each does. No choice of events from a fresh world can end
+ * in two outcomes, as long as world and store are handed back as the call before left them. It is not (yet) a single site's part in a networked
+ * program: there is no call that takes one site and the messages of the others.
  *
  * Of every call:
  * - It allocates nothing and always returns. No state is kept between calls, so any threads may call at once on different buffers.
@@ -43,7 +44,7 @@
  *                commit group   if at least C codes are 2, writes commit and sends OUTCOME; else sends JOIN COMMIT again
  *                abort group    if at least A codes are 3, writes abort and sends OUTCOME; else sends JOIN ABORT again
  *                terminated     sends OUTCOME
- *   DELIVER    first            for every other site, takes the row's code if its level is higher: 0; 1; 2 and 3; 4 and 5
+ *   DELIVER    first            for every other site, takes the row's code if its level is higher than that of the one held. Levels: 0; 1; 2, 3; 4, 5
  *              then             if not terminated and some code is 4 or 5, writes that outcome, the lowest site's
  *              then, by kind
  *                PREPARE        active: writes prepare if willing, else abort. Replies VOTE in every state
