@@ -1,24 +1,59 @@
 /* Plays a list and prints its report: the list file named by the argument, or the day M3.
- *   cc -Wall -Wextra -Werror -Iinclude examples/play_day.c target/staticlib/libquorum.a -o play_day
+ *   cc -Wall -Wextra -Werror -Iinclude examples/play_day.c target/staticlib/libquorum.a -o target/play_day
+ *
+ * Exit status: 0 the list was played to its end; 1 it was refused, and the last line printed says with which number and where; 2 it could not be
+ * read, or its report could not be printed.
  */
 #include <stdio.h>
 
-#include "../include/quorum.h"
+#include "../include/quorum_read.h"
 
-/* One byte more than a list may have, so that a longer file is refused with 1. */
-#define LIST_ROOM 32769
+enum { PLAYED = 0, REFUSED = 1, FAILED = 2 };
 
 static const uint8_t day[] = {0x03, 0x02, 0x02, 0x07, 0x00, 0x01, 0x02, 0x00, 0x00, 0x01, 0x02, 0x01, 0x00,
                               0x00, 0x03, 0x00, 0x02, 0x02, 0x00, 0x02, 0x02, 0x03, 0x00, 0x00, 0x03, 0x00};
 
-static uint8_t file_bytes[LIST_ROOM];
+/* One byte more than a list may have, so that a longer file is refused with 1. */
+static uint8_t file_bytes[QC_LIST_BYTES + 1];
 static uint8_t store[QC_STORE_BYTES];
 static uint8_t world[QC_WORLD_BYTES];
 static uint8_t text[QC_REPORT_BYTES];
 
-static uint32_t number_at(const uint8_t *bytes)
+/* Reads a file's bytes and gives 0, or says why it cannot be read and gives -1. */
+static int read_list(const char *name, size_t *length)
 {
-    return (uint32_t)bytes[0] | (uint32_t)bytes[1] << 8 | (uint32_t)bytes[2] << 16 | (uint32_t)bytes[3] << 24;
+    FILE *file = fopen(name, "rb");
+    int failed;
+
+    if (file == NULL) {
+        perror(name);
+        return -1;
+    }
+    *length = fread(file_bytes, 1, sizeof file_bytes, file);
+    failed = ferror(file);
+    if (failed)
+        perror(name);
+    fclose(file);
+    return failed ? -1 : 0;
+}
+
+/* Prints the report of the world after a play, or the refusal alone where there is no world to report. */
+static int print_report(uint32_t number, uint32_t events, uint32_t place)
+{
+    uint8_t result[QC_RESULT_BYTES];
+    uint32_t refused;
+
+    if (number >= QC_LIST_LONG && number <= QC_BAD_WILLING) {
+        printf("refused %u at %u\n", (unsigned)number, (unsigned)place);
+        return REFUSED;
+    }
+    refused = qc_report(world, sizeof world, events, number, place, text, sizeof text, result, sizeof result);
+    if (refused != QC_ACCEPTED) {
+        fprintf(stderr, "report refused: %s\n", qc_answer_text(refused));
+        return FAILED;
+    }
+    fwrite(text, 1, (size_t)qc_result_length(result), stdout);
+    return number == QC_ACCEPTED ? PLAYED : REFUSED;
 }
 
 int main(int argc, char **argv)
@@ -26,36 +61,21 @@ int main(int argc, char **argv)
     const uint8_t *list = day;
     size_t length = sizeof day;
     uint8_t result[QC_RESULT_BYTES];
-    uint32_t number, events, place, refused;
+    uint32_t number;
+    int status;
 
     if (argc > 1) {
-        FILE *file = fopen(argv[1], "rb");
-        if (file == NULL) {
-            perror(argv[1]);
-            return 1;
-        }
+        if (read_list(argv[1], &length) != 0)
+            return FAILED;
         list = file_bytes;
-        length = fread(file_bytes, 1, sizeof file_bytes, file);
-        if (ferror(file)) {
-            perror(argv[1]);
-            fclose(file);
-            return 1;
-        }
-        fclose(file);
     }
-
     number = qc_play_list(list, length, store, sizeof store, world, sizeof world, result, sizeof result);
-    events = number_at(result);
-    place = number_at(result + 4);
-    if (number >= 1 && number <= 5) {
-        printf("refused %u at %u\n", (unsigned)number, (unsigned)place);
-        return 0;
+    status = print_report(number, qc_result_events(result), qc_result_place(result));
+    if (number != QC_ACCEPTED)
+        fprintf(stderr, "refused: %s\n", qc_answer_text(number));
+    if (fflush(stdout) != 0) {
+        perror("standard output");
+        return FAILED;
     }
-    refused = qc_report(world, sizeof world, events, number, place, text, sizeof text, result, sizeof result);
-    if (refused != 0) {
-        fprintf(stderr, "report refused: %u\n", (unsigned)refused);
-        return 1;
-    }
-    fwrite(text, 1, number_at(result), stdout);
-    return 0;
+    return status;
 }

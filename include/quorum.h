@@ -1,25 +1,19 @@
 /* Quorum commitment player: the calls offered to C.
  *
- * Link with target/staticlib/libquorum.a (x86-64 Linux). The library keeps no state, allocates nothing and always returns.
+ * Link with target/staticlib/libquorum.a (x86-64 Linux). include/quorum_read.h, beside this file, reads worlds, rows and results.
+ *
+ * WHAT THIS IS. One world holds ALL sites of one competition, in one process, and events are played on it: a message arrives, a site has waited
+ * long enough, crashes or comes back. The caller chooses the events; the library says what each does. No choice of events from a fresh world can end
+ * in two outcomes, as long as world and store are handed back as the call before left them. It is not (yet) a single site's part in a networked
+ * program: there is no call that takes one site and the messages of the others.
  *
  * Of every call:
+ * - It allocates nothing and always returns. No state is kept between calls, so any threads may call at once on different buffers.
  * - A buffer is a pointer and its length in bytes. No pointer is NULL, a buffer's bytes are all the caller's, and a buffer that a call may
  *   write (not const) overlaps no other buffer of that call. Nothing else is asked: any bytes, lengths and numbers may be handed in.
  * - Numbers in buffers have their low byte first. A world is QC_WORLD_BYTES bytes, laid out as docs/LAYOUT.md says; a C program need only keep
  *   it and hand it back.
- * - The answer is 0 for accepted, or the number of the first check that failed:
- *     16  the store is shorter than QC_STORE_BYTES
- *     17  a world or result buffer of another length, bytes outside the layout, a world whose values do not fit together; for the report
- *         also a count, place or number out of its range
- *      1  the list is longer than QC_LIST_BYTES             2  it is shorter than its header
- *      3  n is not 3 to 16
- *      4  C or A is over n - 1, or C + A is under n + 1     5  a willing bit at n or above
- *      6  no command byte, or not 1 to 5                    7  its operands are cut short
- *      8  site number n or more                             9  row number not below the row count
- *     10  the row in the store is not a row                11  the site is not among the row's destinations
- *     12  the site is down                                 13  RECOVER while up
- *     14  START while site 0 is not active                 15  a row is to be added and 1,024 are there
- *     18  the report buffer is shorter than QC_REPORT_BYTES
+ * - The answer is QC_ACCEPTED, or the number of the first check that failed. They are made in the order 16, 17, 1 to 15, 18.
  *
  * A list is a header of QC_HEADER_BYTES bytes and then commands:
  *     header      n, the number of sites; C, the commit quorum; A, the abort quorum; the willing sites as 16 bits, bit i for site i
@@ -30,12 +24,39 @@
  *     5 RECOVER   site (1 byte)
  *
  * A row is a message that a site has sent, QC_ROW_BYTES bytes in the store; row k is at QC_ROW_BYTES * k, and rows are numbered from 0 as they
- * are sent. A world knows how many there are (docs/LAYOUT.md: 16 bits at byte 8).
- *     byte 0         kind: 1 prepare, 2 vote, 3 join the commit group, 4 join the abort group, 5 in group, 6 outcome, 7 outcome heard
+ * are sent. A world knows how many there are. Each event sends at most one.
+ *     byte 0         its kind (enum qc_kind)
  *     byte 1         the site that sent it
- *     bytes 2 and 3  the sites that it goes to, as 16 bits
- *     bytes 4 to 19  what its sender knows of each site, one byte a site: 0 active or not known, 1 prepared, 2 in the commit group, 3 in the
- *                    abort group, 4 committed, 5 aborted
+ *     bytes 2 and 3  the sites that it goes to, as 16 bits: all but the sender for a command, the command's sender alone for a reply
+ *     bytes 4 to 19  what its sender knows of each site, one code (enum qc_code) a site
+ *
+ * WHAT EACH COMMAND DOES. A site's state is its outcome if it has one, else its group, else prepared, else active. "Joins" writes the group record
+ * with the codes as they are then; n, C and A are the list's. What a site knows is n codes, its own among them.
+ *
+ *   START      site 0, active
+ *                willing        writes prepare, becomes coordinator, sends PREPARE
+ *                unwilling      writes abort, becomes coordinator, sends OUTCOME
+ *   TIMEOUT    active           writes abort, sends nothing; the role stays
+ *              subordinate      becomes coordinator, decides nothing, sends the command of its state:
+ *                               prepared PREPARE, commit group JOIN COMMIT, abort group JOIN ABORT, terminated OUTCOME
+ *              coordinator      moves on with whatever has arrived:
+ *                prepared       joins the commit group if all n codes are 1 or any is 2, else the abort group; sends that JOIN
+ *                commit group   if at least C codes are 2, writes commit and sends OUTCOME; else sends JOIN COMMIT again
+ *                abort group    if at least A codes are 3, writes abort and sends OUTCOME; else sends JOIN ABORT again
+ *                terminated     sends OUTCOME
+ *   DELIVER    first            for every other site, takes the row's code if its level is higher than that of the one held. Levels: 0; 1; 2, 3; 4, 5
+ *              then             if not terminated and some code is 4 or 5, writes that outcome, the lowest site's
+ *              then, by kind
+ *                PREPARE        active: writes prepare if willing, else abort. Replies VOTE in every state
+ *                JOIN COMMIT    prepared: joins the commit group. Replies IN GROUP in every state
+ *                JOIN ABORT     prepared, or active (and then without a prepare record): joins the abort group. Replies IN GROUP in every state
+ *                OUTCOME        replies OUTCOME ACK
+ *                a reply        nothing more
+ *   CRASH      down, subordinate. The log stays; what it knew is lost: its codes are those of its group record, or all 0, and its own its state
+ *   RECOVER    up; nothing else. Where anything is logged, the next TIMEOUT makes it coordinator; an empty log is active, as at the start
+ *
+ * There is room for QC_ROWS rows, and none is ever given back. Each TIMEOUT of a site that is not active spends one, even where nothing has
+ * arrived since the last; so 15 (QC_STORE_FULL) can end a competition undecided. A caller should let replies arrive before it lets a site time out.
  */
 #ifndef QUORUM_H
 #define QUORUM_H
@@ -43,6 +64,13 @@
 #include <stddef.h>
 #include <stdint.h>
 
+/* The major number goes up when a program may have to change, the minor one when something is added. */
+#define QC_VERSION_MAJOR 1
+#define QC_VERSION_MINOR 0
+#define QC_LAYOUT 1 /* of a world's bytes: its first byte */
+
+#define QC_SITES 16          /* site records of a world, and codes of a row */
+#define QC_ROWS 1024         /* rows: at most */
 #define QC_HEADER_BYTES 5    /* a list's header */
 #define QC_LIST_BYTES 32768  /* a whole list: at most */
 #define QC_ROW_BYTES 20      /* a row */
@@ -50,6 +78,62 @@
 #define QC_STORE_BYTES 20480 /* a store of rows: at least */
 #define QC_REPORT_BYTES 1024 /* a report buffer: at least */
 #define QC_RESULT_BYTES 8    /* a result: exactly */
+
+/* Every answer: its name, number and meaning. 17 is a world or result of another length than it must have, a world's bytes outside the layout, a
+ * world whose values do not fit together, and for the report also an event count, place or number out of its range. */
+#define QC_ANSWERS(answer)                                                                                      \
+    answer(QC_ACCEPTED, 0, "accepted")                                                                          \
+    answer(QC_LIST_LONG, 1, "the list is longer than 32,768 bytes")                                             \
+    answer(QC_LIST_SHORT, 2, "the list is shorter than its header")                                             \
+    answer(QC_BAD_SITES, 3, "the number of sites is not 3 to 16")                                               \
+    answer(QC_BAD_QUORUMS, 4, "a quorum is over n - 1, or both together are under n + 1")                       \
+    answer(QC_BAD_WILLING, 5, "a willing bit at n or above")                                                    \
+    answer(QC_NO_COMMAND, 6, "no command byte, or not 1 to 5")                                                  \
+    answer(QC_CUT_SHORT, 7, "the command's operands are cut short")                                             \
+    answer(QC_NO_SITE, 8, "site number n or more")                                                              \
+    answer(QC_NO_ROW, 9, "row number not below the row count")                                                  \
+    answer(QC_BAD_ROW, 10, "the row in the store is not a row: its kind, sender or a code is out of range")     \
+    answer(QC_NOT_SENT, 11, "the site is not among the row's destinations")                                     \
+    answer(QC_SITE_DOWN, 12, "the site is down")                                                                \
+    answer(QC_SITE_UP, 13, "RECOVER while the site is up")                                                      \
+    answer(QC_STARTED, 14, "START while site 0 is not active")                                                  \
+    answer(QC_STORE_FULL, 15, "a row is to be added and 1,024 are there")                                       \
+    answer(QC_STORE_SHORT, 16, "the store is shorter than 20,480 bytes")                                        \
+    answer(QC_BAD_WORLD, 17, "a length, byte or value of the world, the result or the report numbers is wrong") \
+    answer(QC_REPORT_SHORT, 18, "the report buffer is shorter than 1,024 bytes")
+
+#define QC_ENTRY(name, number, text) name = number,
+enum qc_answer { QC_ANSWERS(QC_ENTRY) QC_ANSWER_COUNT };
+#undef QC_ENTRY
+
+/* Command bytes. */
+enum qc_command { QC_START = 1, QC_DELIVER = 2, QC_TIMEOUT = 3, QC_CRASH = 4, QC_RECOVER = 5 };
+
+/* Kinds of rows. PREPARE, the JOINs and OUTCOME are commands; the others are replies to them. */
+enum qc_kind {
+    QC_PREPARE = 1,
+    QC_VOTE = 2,
+    QC_JOIN_COMMIT = 3,
+    QC_JOIN_ABORT = 4,
+    QC_IN_GROUP = 5,
+    QC_OUTCOME = 6,
+    QC_OUTCOME_ACK = 7
+};
+
+/* A site's state, and what one site knows of another, where QC_ACTIVE also stands for unknown. */
+enum qc_code {
+    QC_ACTIVE = 0,
+    QC_PREPARED = 1,
+    QC_COMMIT_GROUP = 2,
+    QC_ABORT_GROUP = 3,
+    QC_COMMITTED = 4,
+    QC_ABORTED = 5
+};
+
+enum qc_role { QC_SUBORDINATE = 0, QC_COORDINATOR = 1 };
+
+/* What a log's group record or outcome record says. */
+enum qc_record { QC_NO_RECORD = 0, QC_COMMIT = 1, QC_ABORT = 2 };
 
 #ifdef __cplusplus
 extern "C" {
@@ -60,8 +144,8 @@ extern "C" {
  * world:  may hold anything; gets the world at the end, or before the refused command. For 16 and 1 to 5 it gets the world of zeros.
  * result: bytes 0 to 3 get the count of accepted events, bytes 4 to 7 the place: the list's length at its end, the refused command's
  *         byte at a stop. For 16 and 1 to 5 both are 0.
- * Gives 0 if the list was played to its end, 1 to 5 for its length or header, 6 to 15 for the command that stopped it, checked in the order
- * 16, 17, then the rest. If world or result has another length than it must, no buffer is touched. */
+ * Gives 0 if the list was played to its end; else 16, 17, 1 to 5 for its length or header, 6 to 15 for the command that stopped it. If world or
+ * result has another length than it must, no buffer is touched. */
 uint32_t qc_play_list(const uint8_t *list, size_t list_length,
                       uint8_t *store, size_t store_length,
                       uint8_t *world, size_t world_length,
@@ -83,7 +167,7 @@ uint32_t qc_play_command(uint8_t *world, size_t world_length,
  * events, number, place: what qc_play_list gave; events and place at most 32,768, number at most 18.
  * buffer: may hold anything; gets the text from its beginning, and is left as it was beyond it.
  * result: bytes 0 to 7 get the text's length, 64 bits (at most 1,024).
- * Gives 0 if written; else 17, then 18, and no buffer is touched. After numbers 1 to 5 of qc_play_list the world of zeros is 17 here. */
+ * Gives 0 if written; else 17, then 18, and no buffer is touched. After 16 and 1 to 5 of qc_play_list the world is that of zeros, and here 17. */
 uint32_t qc_report(const uint8_t *world, size_t world_length,
                    size_t events, uint32_t number, size_t place,
                    uint8_t *buffer, size_t buffer_length,

@@ -2,6 +2,7 @@
 
 mod call;
 mod guide;
+mod header;
 mod rng;
 mod spoil;
 
@@ -11,6 +12,7 @@ pub use rng::Rng;
 use crate::command::Command;
 use crate::sizes::{everyone, Sizes, HEADER_BYTES, MAX_LIST, MAX_SITES, MIN_SITES};
 use guide::Guide;
+use header::{quorums, sizes};
 
 /// What a long list has at the least, in bytes.
 const LONG: usize = 4_000;
@@ -201,34 +203,4 @@ pub fn duel(n: u8, seed: u64, bytes: usize) -> Vec<u8> {
     let mut guide = Guide::new(sizes, bytes.min(MAX_LIST));
     guide.quarrel(&mut rng);
     guide.list
-}
-
-/// Sizes that pass, small ones more often.
-fn sizes(rng: &mut Rng) -> Sizes {
-    let most = rng.choose(&[5, MAX_SITES]);
-    let n = rng.between(MIN_SITES, most);
-    let (c, a) = quorums(rng, n);
-    Sizes::new(n, c, a, willing(rng, n))
-}
-
-/// Legal quorums, as small as can be half of the time.
-fn quorums(rng: &mut Rng, n: usize) -> (usize, usize) {
-    let c = rng.between(2, n - 1);
-    let least = n + 1 - c;
-    let a = if rng.chance(50) {
-        least
-    } else {
-        rng.between(least, n - 1)
-    };
-    (c, a)
-}
-
-/// Willing sites: all, all but one, or any.
-fn willing(rng: &mut Rng, n: usize) -> u16 {
-    let all = everyone(n);
-    match rng.below(10) {
-        0..=7 => all,
-        8 => all & !(1 << rng.below(n)),
-        _ => all & rng.draw() as u16,
-    }
 }

@@ -6,8 +6,9 @@
 use std::ops::Range;
 
 use crate::number;
-use crate::site::{GroupRecord, Log, Role, Side, Site};
+use crate::site::{GroupRecord, Log, Role, Site};
 use crate::sizes::Sizes;
+use crate::state::Side;
 use crate::vector::Vector;
 use crate::world::World;
 

@@ -4,8 +4,8 @@ use crate::command::{Ask, Command};
 use crate::number;
 use crate::report::Numbers;
 use crate::row::{Row, STORE_BYTES};
-use crate::site::State;
 use crate::sizes::{Sizes, HEADER_BYTES, MAX_LIST};
+use crate::state::State;
 use crate::step::Actor;
 use crate::world::{World, MAX_ROWS};
 

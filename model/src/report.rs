@@ -1,12 +1,11 @@
-//! The report, and all that the player prints.
+//! The report.
 
 use std::fmt::Write;
 
 use crate::number;
-use crate::play::play_list;
-use crate::row::STORE_BYTES;
-use crate::site::{Log, Role, Side, Site};
+use crate::site::{Log, Role, Site};
 use crate::sizes::{Sizes, MAX_LIST};
+use crate::state::Side;
 use crate::world::World;
 
 /// Bytes a report buffer must have.
@@ -45,19 +44,8 @@ pub fn report(world: &World, numbers: Numbers, buffer: &mut [u8]) -> Result<usiz
     Ok(text.len())
 }
 
-/// What the player prints for a list.
-pub fn printed(list: &[u8]) -> String {
-    let mut store = vec![0; STORE_BYTES];
-    let played = play_list(&mut store, list);
-    let numbers = played.numbers();
-    match played.number {
-        number::LIST_LONG..=number::WILLING => last_line(numbers),
-        _ => lines(&played.world, numbers),
-    }
-}
-
 /// All lines of the report.
-fn lines(world: &World, numbers: Numbers) -> String {
+pub fn lines(world: &World, numbers: Numbers) -> String {
     let mut text = first_line(world, numbers.events);
     for (me, site) in world.members().iter().enumerate() {
         text += &site_line(me, site, world.sizes.n);
@@ -108,7 +96,8 @@ fn side_letter(side: Option<Side>, commit: char, abort: char) -> char {
     }
 }
 
-fn last_line(Numbers { stop, place, .. }: Numbers) -> String {
+/// The end, or the stop.
+pub fn last_line(Numbers { stop, place, .. }: Numbers) -> String {
     match stop {
         0 => format!("end {place}\n"),
         _ => format!("refused {stop} at {place}\n"),

@@ -1,6 +1,6 @@
 //! Rows: the messages sent, as they lie in the lent store.
 
-use crate::site::{Side, State};
+use crate::state::{Side, State};
 use crate::vector::Vector;
 use crate::world::MAX_ROWS;
 

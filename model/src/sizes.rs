@@ -1,7 +1,7 @@
 //! The sizes of a competition, and the limits on them.
 
 use crate::number;
-use crate::site::Side;
+use crate::state::Side;
 
 /// Site records a world carries, and codes in each vector.
 pub const MAX_SITES: usize = 16;

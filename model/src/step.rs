@@ -2,8 +2,9 @@
 
 use crate::command::Command;
 use crate::row::{Kind, Row};
-use crate::site::{GroupRecord, Role, Side, Site, State};
+use crate::site::{GroupRecord, Role, Site};
 use crate::sizes::{everyone, Sizes};
+use crate::state::{Side, State};
 use crate::vector::Vector;
 
 /// The site an event happens at, beside the world's sizes.

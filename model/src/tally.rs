@@ -6,7 +6,8 @@ use std::fmt;
 use crate::command::Command;
 use crate::play::{play_command, play_list_by, Played};
 use crate::row::STORE_BYTES;
-use crate::site::{Side, Site, State};
+use crate::site::Site;
+use crate::state::{Side, State};
 use crate::world::{World, MAX_ROWS};
 
 /// Things that a list can lead to.
@@ -24,18 +25,22 @@ pub enum Sight {
     CommitQuorum,
     /// A coordinator counts an abort quorum and aborts.
     AbortQuorum,
+    /// A prepared coordinator times out that knows of no active site and of no
+    /// commit group, but of an abort group.
+    ThreesForPrepares,
     /// Every row the store has room for is sent.
     FullStore,
 }
 
 impl Sight {
-    pub const ALL: [Sight; 7] = [
+    pub const ALL: [Sight; 8] = [
         Sight::Repeat,
         Sight::SeveralLeaders,
         Sight::BothGroups,
         Sight::CrashMidway,
         Sight::CommitQuorum,
         Sight::AbortQuorum,
+        Sight::ThreesForPrepares,
         Sight::FullStore,
     ];
 }
@@ -53,9 +58,9 @@ impl Day {
         let mut store = vec![0; STORE_BYTES];
         let played = play_list_by(&mut store, list, |world, store, ask| {
             let (command, _) = Command::read(ask)?;
-            let before = world.sites.get(command.site()).map(Site::state);
+            let before = world.sites.get(command.site()).copied();
             let next = play_command(world, store, ask)?;
-            eye.look(world, command, before);
+            eye.look(world, command, before.as_ref());
             Ok(next)
         });
         let seen = eye.seen;
@@ -86,8 +91,9 @@ impl Eye {
         self.seen[sight as usize] |= is_seen;
     }
 
-    /// Looks at the world after a command at a site that was in this state.
-    fn look(&mut self, world: &World, command: Command, before: Option<State>) {
+    /// Looks at the world after a command at a site that was like this.
+    fn look(&mut self, world: &World, command: Command, site_before: Option<&Site>) {
+        let before = site_before.map(Site::state);
         let after = world.sites[command.site()].state();
         match command {
             Command::Deliver { row, site } => {
@@ -97,6 +103,7 @@ impl Eye {
             Command::Timeout(_) => {
                 self.look_at_leaders(world);
                 self.look_for_quorum(before, after);
+                self.look_for_threes(world.sizes.n, site_before);
             }
             Command::Crash(_) => self.look_at_crash(world),
             Command::Start | Command::Recover(_) => {}
@@ -120,6 +127,18 @@ impl Eye {
             let was_in_group = before == Some(State::InGroup(side));
             self.note(sight, was_in_group && after == State::Terminated(side));
         }
+    }
+
+    fn look_for_threes(&mut self, n: usize, before: Option<&Site>) {
+        let is_tempted = |site: &Site| {
+            let known = |state| site.vector.codes()[..n].contains(&State::code(state));
+            site.is_coordinator()
+                && site.state() == State::Prepared
+                && known(State::InGroup(Side::Abort))
+                && !known(State::InGroup(Side::Commit))
+                && !known(State::Active)
+        };
+        self.note(Sight::ThreesForPrepares, before.is_some_and(is_tempted));
     }
 
     fn look_at_crash(&mut self, world: &World) {

@@ -1,7 +1,7 @@
 //! Vectors of codes: what a site knows of each site.
 
-use crate::site::{Side, State};
 use crate::sizes::MAX_SITES;
+use crate::state::{Side, State};
 
 /// Highest code.
 const MAX_CODE: u8 = 5;
@@ -46,15 +46,15 @@ impl Vector {
         self.0.iter().filter(|&&held| held == code).count()
     }
 
-    /// For every other site, takes the code told if its level is higher.
+    /// For every other site, takes the code told if its level is higher than
+    /// the one held.
     pub fn merge(&mut self, told: &Vector, own: usize) {
-        let kept = self.0[own];
-        for (held, &told) in self.0.iter_mut().zip(&told.0) {
-            if level(told) > level(*held) {
+        let entries = self.0.iter_mut().zip(&told.0).enumerate();
+        for (site, (held, &told)) in entries {
+            if site != own && level(told) > level(*held) {
                 *held = told;
             }
         }
-        self.0[own] = kept;
     }
 
     /// The outcome that some entry shows, the lowest site's first.

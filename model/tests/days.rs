@@ -6,7 +6,8 @@ use model::generate::{list_of, quiet_day};
 use model::row::{ROW_BYTES, STORE_BYTES};
 use model::{play_list, printed, Command, Kind, Played, Row, Side, Site, Sizes, State, World};
 
-use common::{header, rows_of_site_0, three, three_sites, M3_LIST, M3_REPORT, TWO_AGAINST};
+use common::{header, rows_of_site_0, three, three_sites};
+use common::{M3_LIST, M3_REPORT, THREES_FOR_PREPARES, TWO_AGAINST};
 use Command::{Crash, Recover, Start, Timeout};
 
 /// Two sites in the abort group, and then some commands.
@@ -267,6 +268,25 @@ fn an_abort_group_member_stays_when_a_join_commit_arrives() {
     assert_eq!(day.log(1), (true, Some(Side::Abort), None));
     assert_eq!(day.row(6).kind, Kind::InGroup);
     assert_eq!(day.codes(1), [2, 3, 1]);
+}
+
+#[test]
+fn a_3_is_no_prepare() {
+    let before = Day::new(&three(7, &THREES_FOR_PREPARES[..8]));
+    before.assert_accepted(8, 6);
+    assert_eq!(before.log(0), (true, Some(Side::Abort), None));
+    assert_eq!(before.log(1), (true, None, None));
+    assert_eq!(before.log(2), (false, Some(Side::Abort), None));
+    assert!(before.site(1).is_coordinator());
+    assert_eq!(before.codes(1), [3, 1, 3]);
+    assert_eq!(before.row(4).kind, Kind::Prepare);
+    assert_eq!(before.row(5).kind, Kind::Vote);
+    let after = Day::new(&three(7, &THREES_FOR_PREPARES));
+    after.assert_accepted(9, 7);
+    assert_eq!(after.log(1), (true, Some(Side::Abort), None));
+    assert_eq!(after.codes(1), [3, 3, 3]);
+    let row = [4, 1, 5, 0, 3, 3, 3, 0, 0, 0, 0, 0, 0, 0, 0, 0, 0, 0, 0, 0];
+    assert_eq!(after.store[6 * ROW_BYTES..7 * ROW_BYTES], row);
 }
 
 #[test]

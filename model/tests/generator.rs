@@ -103,6 +103,7 @@ fn guided_lists_are_rich() {
         (Sight::SeveralLeaders, 10),
         (Sight::BothGroups, 2),
         (Sight::CrashMidway, 5),
+        (Sight::ThreesForPrepares, 2),
     ] {
         assert!(tally.percent(sight) >= least, "{sight:?}");
     }

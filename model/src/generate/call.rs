@@ -1,12 +1,14 @@
 //! One-command calls, on worlds that a list may never reach.
 
 use super::guide::Guide;
-use super::{sizes, Rng};
+use super::header::sizes;
+use super::rng::Rng;
 use crate::command::{Ask, Command};
 use crate::layout::{encode, CODES, GROUP_CODES, HEAD_BYTES, SITE_BYTES, WORLD_BYTES};
 use crate::row::{ROW_BYTES, STORE_BYTES};
-use crate::site::{GroupRecord, Log, Role, Side, Site, State};
+use crate::site::{GroupRecord, Log, Role, Site};
 use crate::sizes::{everyone, MAX_SITES};
+use crate::state::{Side, State};
 use crate::vector::Vector;
 use crate::world::{World, MAX_ROWS};
 

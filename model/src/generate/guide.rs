@@ -1,11 +1,12 @@
 //! A list that grows along a world, so that its commands are accepted.
 
-use super::Rng;
+use super::rng::Rng;
 use crate::command::{Ask, Command};
 use crate::play::play_command;
 use crate::row::{Row, STORE_BYTES};
-use crate::site::{Side, Site, State};
+use crate::site::Site;
 use crate::sizes::Sizes;
+use crate::state::{Side, State};
 use crate::world::{World, MAX_ROWS};
 
 /// A row and a site it goes to.
@@ -168,8 +169,10 @@ impl Guide {
     pub fn wander(&mut self, rng: &mut Rng) {
         let weather = rng.choose(&WEATHERS);
         let floods = rng.chance(50);
-        if rng.chance(90) {
-            self.open(rng, weather);
+        match rng.below(100) {
+            0..=84 => self.open(rng, weather),
+            85..=89 => self.open_with_threes(rng),
+            _ => {}
         }
         if rng.chance(30) && is_undecided(&self.world) {
             self.hold = rng.below(MAX_ROWS);
@@ -197,6 +200,31 @@ impl Guide {
         if rng.chance(70) {
             self.round(rng, Command::Timeout(0), weather);
         }
+    }
+
+    /// One site prepares, all the others join the abort group, and the prepared
+    /// one leads once it has heard so from site 0.
+    fn open_with_threes(&mut self, rng: &mut Rng) {
+        let prepared = rng.between(1, self.n() - 1);
+        self.send_to(Command::Start, &[prepared]);
+        let others: Vec<usize> = (1..self.n()).filter(|&site| site != prepared).collect();
+        let first_reply = self.send_to(Command::Timeout(0), &others);
+        for reply in first_reply..self.world.row_count {
+            self.hand_over((reply, 0));
+        }
+        let vote = self.send_to(Command::Timeout(prepared), &[0]);
+        self.hand_over((vote, prepared));
+        self.play(Command::Timeout(prepared));
+    }
+
+    /// A command whose row arrives at these sites; gives the first reply's row.
+    fn send_to(&mut self, command: Command, sites: &[usize]) -> usize {
+        let row = self.world.row_count;
+        self.play(command);
+        for &site in sites {
+            self.hand_over((row, site));
+        }
+        row + 1
     }
 
     /// Some more commands.

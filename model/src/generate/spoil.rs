@@ -1,11 +1,12 @@
 //! One command at a list's end that is refused.
 
 use super::guide::Guide;
-use super::Rng;
+use super::rng::Rng;
 use crate::command::Command;
 use crate::number;
-use crate::site::{Site, State};
+use crate::site::Site;
 use crate::sizes::{MAX_LIST, MAX_SITES};
+use crate::state::State;
 use crate::world::MAX_ROWS;
 
 /// The numbers a played command can be refused with.

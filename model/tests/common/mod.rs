@@ -30,6 +30,20 @@ pub const TWO_AGAINST: [Command; 6] = [
     Command::deliver(3, 0),
 ];
 
+/// Sites 0 and 2 are in the abort group, and site 1 leads, prepared. It holds 3, 1,
+/// 3 when it times out at the end.
+pub const THREES_FOR_PREPARES: [Command; 9] = [
+    Start,
+    Command::deliver(0, 1),
+    Timeout(0),
+    Command::deliver(2, 2),
+    Command::deliver(3, 0),
+    Timeout(1),
+    Command::deliver(4, 0),
+    Command::deliver(5, 1),
+    Timeout(1),
+];
+
 /// Three sites, quorums of two.
 pub fn three_sites(willing: u16) -> Sizes {
     Sizes::new(3, 2, 2, willing)

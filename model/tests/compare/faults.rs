@@ -12,6 +12,9 @@ pub enum Fault {
     None,
     /// Every entry that is not 0 counts for a quorum.
     CountsAllEntries,
+    /// A prepared coordinator takes a 3 for a prepare: it joins the commit
+    /// group where no entry is 0, though not all are 1.
+    TakesThreeForPrepare,
     /// The vector lives through a crash.
     KeepsVector,
     /// A site in the abort group moves when a join commit arrives.
@@ -26,8 +29,9 @@ pub enum Fault {
     WritesPastText,
 }
 
-pub const FAULTS: [Fault; 7] = [
+pub const FAULTS: [Fault; 8] = [
     Fault::CountsAllEntries,
+    Fault::TakesThreeForPrepare,
     Fault::KeepsVector,
     Fault::LeavesAbortGroup,
     Fault::WritesPastRows,
@@ -72,6 +76,9 @@ impl Faulty {
                 world.sites[me].vector = before.sites[me].vector;
             }
             (Fault::CountsAllEntries, Command::Timeout(_)) => count_all(before, world, store, me),
+            (Fault::TakesThreeForPrepare, Command::Timeout(_)) => {
+                take_for_prepares(before, world, store, me)
+            }
             (Fault::LeavesAbortGroup, Command::Deliver { row, .. })
                 if store[row * ROW_BYTES] == Kind::Join(Side::Commit).byte() =>
             {
@@ -101,14 +108,28 @@ fn count_all(before: &World, world: &mut World, store: &mut [u8], me: usize) {
 
 fn leave_abort_group(before: &World, world: &mut World, store: &mut [u8], me: usize) {
     let abort = State::InGroup(Side::Abort);
-    let site = &mut world.sites[me];
-    if before.sites[me].state() == abort && site.state() == abort {
-        let side = Side::Commit;
-        site.vector.set(me, State::InGroup(side));
-        let vector = site.vector;
-        site.log.group = Some(GroupRecord { side, vector });
-        send_again(world, store, me, Kind::InGroup);
+    if before.sites[me].state() == abort && world.sites[me].state() == abort {
+        join_commit(world, store, me, Kind::InGroup);
     }
+}
+
+fn take_for_prepares(before: &World, world: &mut World, store: &mut [u8], me: usize) {
+    let held = &before.sites[me];
+    let led = held.is_coordinator() && held.state() == State::Prepared;
+    let known = &held.vector.codes()[..before.sizes.n];
+    if led && known.iter().all(|&code| code != 0) {
+        join_commit(world, store, me, Kind::Join(Side::Commit));
+    }
+}
+
+/// The site is in the commit group instead, and its row says so.
+fn join_commit(world: &mut World, store: &mut [u8], me: usize, kind: Kind) {
+    let side = Side::Commit;
+    let site = &mut world.sites[me];
+    site.vector.set(me, State::InGroup(side));
+    let vector = site.vector;
+    site.log.group = Some(GroupRecord { side, vector });
+    send_again(world, store, me, kind);
 }
 
 /// The last row, with the site's vector and kind as they are now.

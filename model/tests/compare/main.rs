@@ -118,7 +118,7 @@ const CLAUSES: &[&str] = &[
 
 /// The least that is asked for of the lists compared: in how many of a hundred
 /// each sight is had, and in how many of a hundred of the longer lists.
-const LEAST: [(Sight, usize, usize); 7] = [
+const LEAST: [(Sight, usize, usize); 8] = [
     (Sight::Repeat, 30, 90),
     (Sight::SeveralLeaders, 30, 90),
     (Sight::FullStore, 1, 60),
@@ -126,6 +126,7 @@ const LEAST: [(Sight, usize, usize); 7] = [
     (Sight::BothGroups, 4, 30),
     (Sight::CommitQuorum, 15, 20),
     (Sight::AbortQuorum, 4, 30),
+    (Sight::ThreesForPrepares, 1, 1),
 ];
 
 /// All that is compared; the first difference ends it.

@@ -8,7 +8,7 @@ use model::sizes::{everyone, MAX_LIST};
 use model::world::MAX_ROWS;
 use model::{Ask, Command, Log, Role, Side, Sizes, State, World};
 
-use super::{base, deliver, Done};
+use super::shared::{base, deliver, Done};
 use crate::common::{group, vector};
 use crate::comparer::Comparer;
 

@@ -7,8 +7,8 @@ use model::sizes::{HEADER_BYTES, MAX_LIST};
 use model::world::MAX_ROWS;
 use model::Command;
 
-use super::{deliver, Done};
-use crate::common::{header, rows_of_site_0, three, M3_LIST};
+use super::shared::{deliver, Done};
+use crate::common::{header, rows_of_site_0, three, M3_LIST, THREES_FOR_PREPARES};
 use crate::comparer::{Comparer, Lengths, USUAL};
 
 use Command::{Crash, Recover, Start, Timeout};
@@ -36,6 +36,7 @@ fn days() -> Vec<Numbered> {
         ("14 day M8", 14, three(7, &[Start, Start])),
         ("11 day M9", 11, three(7, &[Start, deliver(0, 0)])),
         ("13 day M10", 13, three(7, &[Recover(1)])),
+        ("0 a 3 is no prepare", 0, three(7, &THREES_FOR_PREPARES)),
         ("7 cut after one operand byte", 7, cut),
         ("0 row 1,023 as the 1,024th", 0, three(7, &full)),
         ("15 row 1,024 as the 1,025th", 15, three(7, &over)),

@@ -6,7 +6,7 @@ use model::report::REPORT_BYTES;
 use model::sizes::{everyone, MAX_LIST};
 use model::{number, Numbers, Sizes, World};
 
-use super::{base, Done, SOME};
+use super::shared::{base, Done, SOME};
 use crate::common::widest;
 use crate::comparer::Comparer;
 

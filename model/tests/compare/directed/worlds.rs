@@ -9,7 +9,7 @@ use model::row::STORE_BYTES;
 use model::sizes::MAX_SITES;
 use model::Command;
 
-use super::{base, deliver, first, Done, SOME};
+use super::shared::{base, deliver, first, Done, SOME};
 use crate::comparer::Comparer;
 
 use Command::Timeout;

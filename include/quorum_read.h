@@ -1,0 +1,196 @@
+/* Readers for what quorum.h hands over: worlds, rows and results, and an answer in words.
+ *
+ * They check nothing. A world is one that a call has left (QC_WORLD_BYTES bytes), a site is below QC_SITES, a row below the world's row count, and a
+ * result is of an accepted call, or of qc_play_list. docs/LAYOUT.md has the bytes.
+ */
+#ifndef QUORUM_READ_H
+#define QUORUM_READ_H
+
+#include "quorum.h"
+
+/* Numbers in a buffer, low byte first. */
+static inline unsigned qc_number16(const uint8_t *bytes)
+{
+    return bytes[0] | (unsigned)bytes[1] << 8;
+}
+
+static inline uint32_t qc_number32(const uint8_t *bytes)
+{
+    return qc_number16(bytes) | (uint32_t)qc_number16(bytes + 2) << 16;
+}
+
+static inline uint64_t qc_number64(const uint8_t *bytes)
+{
+    return qc_number32(bytes) | (uint64_t)qc_number32(bytes + 4) << 32;
+}
+
+/* Results. */
+
+/* Of qc_play_list: the accepted events. */
+static inline uint32_t qc_result_events(const uint8_t *result)
+{
+    return qc_number32(result);
+}
+
+/* Of qc_play_list: the list's length, or the place of the refused command. */
+static inline uint32_t qc_result_place(const uint8_t *result)
+{
+    return qc_number32(result + 4);
+}
+
+/* Of qc_play_command: the place after the command. */
+static inline uint64_t qc_result_next_place(const uint8_t *result)
+{
+    return qc_number64(result);
+}
+
+/* Of qc_report: the text's length. */
+static inline uint64_t qc_result_length(const uint8_t *result)
+{
+    return qc_number64(result);
+}
+
+/* A world's sizes. */
+
+static inline unsigned qc_site_count(const uint8_t *world)
+{
+    return world[1];
+}
+
+static inline unsigned qc_commit_quorum(const uint8_t *world)
+{
+    return qc_number16(world + 2);
+}
+
+static inline unsigned qc_abort_quorum(const uint8_t *world)
+{
+    return qc_number16(world + 4);
+}
+
+/* The willing sites, bit i for site i. */
+static inline unsigned qc_willing(const uint8_t *world)
+{
+    return qc_number16(world + 6);
+}
+
+/* The rows sent so far. */
+static inline unsigned qc_row_count(const uint8_t *world)
+{
+    return qc_number16(world + 8);
+}
+
+/* A world's sites. */
+
+/* The first byte of a site's record. */
+static inline const uint8_t *qc_site(const uint8_t *world, unsigned site)
+{
+    return world + 16 + 40 * site;
+}
+
+/* 1 up, 0 down. */
+static inline unsigned qc_site_up(const uint8_t *world, unsigned site)
+{
+    return qc_site(world, site)[0];
+}
+
+/* enum qc_role. */
+static inline unsigned qc_site_role(const uint8_t *world, unsigned site)
+{
+    return qc_site(world, site)[1];
+}
+
+/* The log's prepare record: 1 written, 0 not. */
+static inline unsigned qc_log_prepare(const uint8_t *world, unsigned site)
+{
+    return qc_site(world, site)[2];
+}
+
+/* The log's group record: enum qc_record. */
+static inline unsigned qc_log_group(const uint8_t *world, unsigned site)
+{
+    return qc_site(world, site)[3];
+}
+
+/* The log's outcome record: enum qc_record. */
+static inline unsigned qc_log_outcome(const uint8_t *world, unsigned site)
+{
+    return qc_site(world, site)[4];
+}
+
+/* What the site knew of another when it joined its group; 0 where it has joined none. */
+static inline unsigned qc_log_group_code(const uint8_t *world, unsigned site, unsigned of)
+{
+    return qc_site(world, site)[24 + of];
+}
+
+/* What the site knows of another: enum qc_code. */
+static inline unsigned qc_site_code(const uint8_t *world, unsigned site, unsigned of)
+{
+    return qc_site(world, site)[8 + of];
+}
+
+/* The site's state: enum qc_code. Its own code says it. */
+static inline unsigned qc_site_state(const uint8_t *world, unsigned site)
+{
+    return qc_site_code(world, site, site);
+}
+
+/* Has the site an outcome? */
+static inline int qc_site_terminated(const uint8_t *world, unsigned site)
+{
+    return qc_log_outcome(world, site) != QC_NO_RECORD;
+}
+
+/* Rows of a store. */
+
+/* The first byte of a row. */
+static inline const uint8_t *qc_row(const uint8_t *store, unsigned row)
+{
+    return store + (size_t)QC_ROW_BYTES * row;
+}
+
+/* enum qc_kind. */
+static inline unsigned qc_row_kind(const uint8_t *store, unsigned row)
+{
+    return qc_row(store, row)[0];
+}
+
+/* The site that sent it. */
+static inline unsigned qc_row_sender(const uint8_t *store, unsigned row)
+{
+    return qc_row(store, row)[1];
+}
+
+/* The sites that it goes to, bit i for site i. */
+static inline unsigned qc_row_destinations(const uint8_t *store, unsigned row)
+{
+    return qc_number16(qc_row(store, row) + 2);
+}
+
+/* Does it go to this site? */
+static inline int qc_row_goes_to(const uint8_t *store, unsigned row, unsigned site)
+{
+    return (qc_row_destinations(store, row) >> site & 1) != 0;
+}
+
+/* What its sender knows of a site: enum qc_code. */
+static inline unsigned qc_row_code(const uint8_t *store, unsigned row, unsigned of)
+{
+    return qc_row(store, row)[4 + of];
+}
+
+/* An answer in words. */
+static inline const char *qc_answer_text(uint32_t number)
+{
+    switch (number) {
+#define QC_TEXT(name, number, text) \
+    case number:                    \
+        return text;
+        QC_ANSWERS(QC_TEXT)
+#undef QC_TEXT
+    default:
+        return "no answer of this library";
+    }
+}
+
+#endif

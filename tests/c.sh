@@ -1,0 +1,66 @@
+#!/usr/bin/env bash
+# The library from C: the headers, their readers and the examples, built strictly and run. Wants target/staticlib/libquorum.a.
+set -euo pipefail
+cd "$(dirname "$0")/.."
+strict=(-Wall -Wextra -Werror -pedantic -Iinclude)
+work=$(mktemp -d)
+trap 'rm -rf "$work"' EXIT
+
+fail() {
+    echo "C: $1"
+    exit 1
+}
+
+build() { # FILE: target/NAME from the C file
+    cc -std=c99 -O2 "${strict[@]}" "$1" target/staticlib/libquorum.a -o "target/$(basename "$1" .c)"
+}
+
+status() { # WANTED COMMAND ..: its exit status; what it prints is in $work/got
+    local wanted=$1 got=0
+    shift
+    "$@" > "$work/got" 2> "$work/errors" || got=$?
+    [ "$got" -eq "$wanted" ] || fail "$* exits $got, not $wanted"
+}
+
+for header in include/*.h; do
+    cc -std=c99 "${strict[@]}" -fsyntax-only -x c "$header"
+    c++ "${strict[@]}" -fsyntax-only -x c++ "$header"
+done
+c++ "${strict[@]}" -fsyntax-only -x c++ tests/readers.c
+build tests/readers.c
+target/readers
+
+build examples/play_day.c
+for list in '' examples/m3.bin; do
+    status 0 target/play_day ${list:+"$list"}
+    cmp "$work/got" crates/player/stdout
+done
+refused=0
+for list in tests/vectors/*.bin; do
+    wanted=0
+    grep -q '^refused' "${list%.bin}.out" && wanted=1
+    status "$wanted" target/play_day "$list"
+    cmp "$work/got" "${list%.bin}.out"
+    refused=$((refused + wanted))
+done
+[ "$refused" -ge 10 ] || fail "only $refused vectors are refused"
+status 2 target/play_day "$work/missing"
+status 2 target/play_day "$work"
+echo "C: play_day prints every vector's report; 0, 1 ($refused lists) and 2 as its exit status"
+
+build examples/club.c
+seeds=300
+committed=0
+for seed in $(seq "$seeds"); do
+    status 0 target/club "$seed"
+    case $(awk 'NR > 1 && NR < 7 { print $2, $4 }' "$work/got" | sort -u) in
+    'up committed') committed=$((committed + 1)) ;;
+    'up aborted') ;;
+    *) fail "club: seed $seed ends in more than one state" ;;
+    esac
+done
+status 2 target/club nonsense
+if [ "$committed" -eq 0 ] || [ "$committed" -eq "$seeds" ]; then
+    fail "club: $committed of $seeds seeds commit"
+fi
+echo "C: club agrees for $seeds seeds, $committed of them commit"
