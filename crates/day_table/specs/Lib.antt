@@ -1,3 +1,4 @@
 pub mod Shown
 pub mod Table
+pub mod Claims
 pub mod laws

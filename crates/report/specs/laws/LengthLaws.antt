@@ -19,6 +19,7 @@ use Rattle.site.specs.State.{stateOf}
 use Rattle.world.specs.declared.World.{World}
 use Rattle.world.specs.Worlds.{siteOf}
 use Rattle.report.specs.Lines.{upWord, roleWord, stateWord, prepareLetter, groupLetter, outcomeLetter, logLetters, codeDigits, sizesLine, siteLine, siteLines, lastLine}
+use Rattle.report.specs.Claims.{ReportFits}
 use Rattle.report.specs.Report.{reportText, reportValid}
 use Rattle.report.specs.laws.LineLaws.{small-sizes, last-end, last-refused}
 use Rattle.report.specs.laws.ReportLaws.{report-parts}
@@ -96,9 +97,7 @@ last-length number place =
     (λ h. rw (last-refused number place h) (simp length-append (omega (arith, decimal-length number, decimal-length place))))
 
 -- THE REPORT FITS
-pub report-length :
-    (w : World) (events number place : ℕ) → reportValid w events number place ≡ true →
-    length (reportText w events number place) ≤ 1019
+pub report-length : ReportFits
 unfolding reportText
 report-length w events number place e =
     let small : w .n ≤ 16 = small-sizes w (report-parts w events number place e .world) .sites-small in

@@ -9,6 +9,7 @@ use lib.ListN.{length, getD, set, length-set}
 use lib.Seq.{lt-length-set, getD-set-same, getD-set-other, ext-getD}
 use Rattle.choice.specs.laws.ChoiceLaws.{set-ind}
 use Rattle.row.specs.declared.Row.{Row}
+use Rattle.row.specs.Claims.{RowReadsBack, OtherRowsStay, Around, BytesAroundStay}
 use Rattle.row.specs.Rows.{rowPlace, putHead, putCodes, putRowAt, putRow, codesFrom, rowAt, getRow}
 
 -- the codes written
@@ -215,3 +216,15 @@ module _ (store : List ℕ) (k : ℕ) (r : Row) (room : rowPlace (k + 1) ≤ len
       row-same (getRow (putRow store k r) k) r getRow-kind (getRow-sender s) (getRow-destinations d)
       (ext-getD 0 (getRow (putRow store k r) k .codes) (r .codes) (getRow-length (putRow store k r) k ∙ sym l)
       (λ i h. getRow-code i (omega (arith, getRow-length (putRow store k r) k))))
+
+-- the claims
+
+pub row-reads-back : RowReadsBack
+row-reads-back store k r room s d l = getRow-same store k r room s d l
+
+pub other-rows-stay : OtherRowsStay
+other-rows-stay = getRow-else
+
+pub bytes-around-stay : BytesAroundStay
+bytes-around-stay store k r =
+    record { same-length = putRow-length store k r; below = putRow-below store k r; beyond = putRow-beyond store k r }

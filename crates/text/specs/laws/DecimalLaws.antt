@@ -10,11 +10,7 @@ use lib.ListN.{length, length-append, getD}
 use borrow.Author.Tests.{le-leb, lt-leb, leb-true, leb-false}
 use Rattle.choice.specs.laws.Cases.{by-test}
 use Rattle.text.specs.Text.{text, digitAt, decimal, named}
-
--- the number that digits stand for, after a number read before them
-unfoldable pub readFrom : ℕ → List ℕ → ℕ
-readFrom v [] = v
-readFrom v (d ∷ s) = readFrom (10 * v + (d - 48)) s
+use Rattle.text.specs.Claims.{readFrom, DecimalReads, NoLeadingNought}
 
 read-join : (v : ℕ) (s t : List ℕ) → readFrom v (s ++ t) ≡ readFrom (readFrom v s) t
 unfolding readFrom
@@ -64,7 +60,7 @@ last-reads x s e =
     ∙ (omega (arith, div-add-mod x 10))
 
 -- the digits of a number below a million read back give the number
-pub decimal-reads : (x : ℕ) → x < 1000000 → readFrom 0 (decimal x) ≡ x
+pub decimal-reads : DecimalReads
 unfolding decimal readFrom
 decimal-reads x h =
     last-reads x (digitAt 100000 x ++ digitAt 10000 x ++ digitAt 1000 x ++ digitAt 100 x ++ digitAt 10 x)
@@ -74,7 +70,7 @@ decimal-reads x h =
     (next-reads 10000 x (digitAt 100000 x) (next-reads 100000 x [] (sym (div-eq-of-lt h)))))))
 
 -- a number from ten up has no leading nought
-pub no-leading-nought : (x : ℕ) → 10 ≤ x → x < 1000000 → getD (decimal x) 0 0 ≡ 48 → ⊥
+pub no-leading-nought : NoLeadingNought
 unfolding decimal
 no-leading-nought x low high =
     by-unit 100000 x (λ h. rw (shown 100000 x h) (λ e. omega arith)) λ h₁. rw (hidden 100000 x h₁)
