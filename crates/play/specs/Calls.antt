@@ -5,7 +5,7 @@ use lib.Dec.{ltb, eqb}
 use Rattle.choice.specs.Choice.{pick}
 use Rattle.row.specs.Rows.{putRow}
 use Rattle.site.specs.Records.{Written}
-use Rattle.site.specs.Rules.{Move}
+use Rattle.rules.specs.Rules.{Move}
 use Rattle.world.specs.declared.World.{World}
 use Rattle.world.specs.Sizes.{maxRows}
 use Rattle.world.specs.Worlds.{withSite, withRows}

@@ -9,7 +9,7 @@ use Rattle.row.specs.declared.Row.{Row}
 use Rattle.row.specs.Bits.{hasBit}
 use Rattle.row.specs.Rows.{getRow, rowKnown}
 use Rattle.site.specs.State.{stateOf, isActive}
-use Rattle.site.specs.Rules.{start, timeout, deliver, crash, recover}
+use Rattle.rules.specs.Rules.{start, timeout, deliver, crash, recover}
 use Rattle.command.specs.declared.Command.{Command}
 use Rattle.command.specs.declared.Command.the-variants as Command·
 use Rattle.command.specs.declared.Reading.{Reading}

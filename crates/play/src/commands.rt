@@ -8,6 +8,7 @@ use crate::Head;
 use crate::enter::enter;
 use crate::enter::refused;
 use row::Row;
+use rules::Participant;
 use site::Site;
 
 pub fn start(head: Head, store: &mut [u8], at: usize, next: usize, site: Site) -> Change
@@ -16,7 +17,9 @@ pub fn start(head: Head, store: &mut [u8], at: usize, next: usize, site: Site) -
 {
     if site.up {
         if site::is_active(site.state()) {
-            let step = site.start(head.n, row::has_bit(head.willing, 0));
+            let n = head.n;
+            let willing = row::has_bit(head.willing, 0);
+            let step = Participant { own: 0, n, site }.start(willing);
             return enter(head, store, at, next, 0, site, step);
         }
         return refused(14, head, at, site);
@@ -36,9 +39,10 @@ pub fn timeout(
     ensures { λ r. ⌜ Acts head own site r (now (store .exit)) (λ w. timeoutCall w (now (store .entry)) at next own) ⌝ }
 {
     if site.up {
+        let n = head.n;
         let commit = head.commit;
         let abort = head.abort;
-        let step = site.timeout(own, head.n, commit, abort);
+        let step = Participant { own, n, site }.timeout(commit, abort);
         return enter(head, store, at, next, own, site, step);
     }
     refused(12, head, at, site)
@@ -49,7 +53,8 @@ pub fn crash(head: Head, store: &mut [u8], at: usize, next: usize, own: usize, s
     ensures { λ r. ⌜ Acts head own site r (now (store .exit)) (λ w. crashCall w (now (store .entry)) at next own) ⌝ }
 {
     if site.up {
-        let step = site.crash(own);
+        let n = head.n;
+        let step = Participant { own, n, site }.crash();
         return enter(head, store, at, next, own, site, step);
     }
     refused(12, head, at, site)
@@ -69,7 +74,8 @@ pub fn recover(
     if site.up {
         return refused(13, head, at, site);
     }
-    let step = site.recover();
+    let n = head.n;
+    let step = Participant { own, n, site }.recover();
     enter(head, store, at, next, own, site, step)
 }
 
@@ -89,7 +95,9 @@ fn deliver_row(
     if row::row_known(head.n, row) {
         if row::has_bit(row.destinations, own) {
             if site.up {
-                let step = site.deliver(own, head.n, row::has_bit(head.willing, own), row);
+                let n = head.n;
+                let willing = row::has_bit(head.willing, own);
+                let step = Participant { own, n, site }.deliver(willing, row);
                 return enter(head, store, at, next, own, site, step);
             }
             return refused(12, head, at, site);

@@ -6,8 +6,8 @@ ghost use Rattle.play.specs.Calls.{enter};
 ghost use Rattle.play.specs.laws.Changes.{Ready, Acts, refusedChange};
 use crate::Change;
 use crate::Head;
+use rules::Step;
 use site::Site;
-use site::Step;
 use world::World;
 
 pub fn refused(number: u8, head: Head, at: usize, site: Site) -> Change

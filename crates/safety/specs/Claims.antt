@@ -10,9 +10,9 @@ use Rattle.row.specs.Bits.{hasBit}
 use Rattle.row.specs.Rows.{getRow, rowPlace}
 use Rattle.site.specs.State.{stateOf, codeOf, isActive}
 use Rattle.site.specs.Records.{Written, recordCode}
-use Rattle.site.specs.Rules.{hear, adopt}
 use Rattle.site.specs.declared.CommitQuorum.{CommitQuorum}
 use Rattle.site.specs.declared.AbortQuorum.{AbortQuorum}
+use Rattle.rules.specs.Rules.{hear, adopt}
 use Rattle.command.specs.declared.Command.the-variants as Command·
 use Rattle.command.specs.declared.Delivery.{Delivery}
 use Rattle.command.specs.Commands.{readCommand, found}

@@ -1,4 +1,3 @@
 pub mod State
 pub mod Fields
 pub mod Records
-pub mod Rules

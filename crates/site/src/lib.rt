@@ -1,13 +1,10 @@
-// A site, its log and its rules.
-mod deliver;
+// A site, its log and its state.
 mod log;
-mod rules;
-mod send;
 mod states;
-mod timeout;
 
 pub use states::code_of;
 pub use states::is_active;
+pub use states::is_terminated;
 
 pub enum Group {
     None,
@@ -45,10 +42,4 @@ pub struct Site {
     pub joined: [u8; 16],
     pub outcome: Outcome,
     pub codes: [u8; 16],
-}
-
-// What a rule hands back: the next site, and the row it sends (kind 0: none).
-pub struct Step {
-    pub site: Site,
-    pub row: row::Row,
 }

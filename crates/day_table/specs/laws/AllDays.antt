@@ -7,7 +7,7 @@ use Rattle.row.specs.Rows.{noRow, rowPlace, putHead, putCodes, putRowAt, putRow
 use Rattle.site.specs.State.{stateBy, stateOf, codeOf, isTerminated, isActive, commitReached, abortReached}
 use Rattle.site.specs.Fields.{zeroVector, blankSite, withUp, withCoordinator, withPrepared, withGroup, withOutcome, withCodes}
 use Rattle.site.specs.Records.{groupOf, outcomeOf, recordCode, withOwn, writePrepare, joinGroup, writeOutcome}
-use Rattle.site.specs.Rules.{silent, commandRow, commanding, replyRow, replying, start, takeOver, chooseGroup, decideCommit, decideAbort, timeoutIn, timeout, hear, adoptCode, adopt, voteIn, joinCommitIn, joinAbortIn, after, answer, deliver, keptVector, crash, recover}
+use Rattle.rules.specs.Rules.{silent, commandRow, commanding, replyRow, replying, start, takeOver, chooseGroup, decideCommit, decideAbort, timeoutIn, timeout, hear, adoptCode, adopt, voteIn, joinCommitIn, joinAbortIn, after, answer, deliver, keptVector, crash, recover}
 use Rattle.command.specs.Commands.{found, refused, target, delivery, readTarget, readDelivery, readByte, readCommand}
 use Rattle.world.specs.Sizes.{quorumsNumber, sizesNumber}
 use Rattle.world.specs.Worlds.{downSites, zeroWorld, freshSites, freshWorld, siteOf, isWilling, withSite, withRows}

@@ -8,7 +8,7 @@ use Rattle.row.specs.Rows.{noRow}
 use Rattle.site.specs.declared.Site.{Site}
 use Rattle.site.specs.Fields.{withUp, withCoordinator, withCodes}
 use Rattle.site.specs.Records.{Written, LogRecord, wrote}
-use Rattle.site.specs.Rules.{Move, Noted, silent, commandRow, commanding, replyRow, replying, after}
+use Rattle.rules.specs.Rules.{Move, Noted, silent, commandRow, commanding, replyRow, replying, after}
 use Rattle.safety.specs.Claims.{writtenAt}
 use Rattle.safety.specs.laws.HistoryLaws.{at-append, at-other}
 use Rattle.safety.specs.laws.Truth.{Terms, AllPrepared, TrueHistory, TrueVector, TrueSite, TrueRow}

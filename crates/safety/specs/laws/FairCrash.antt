@@ -10,7 +10,7 @@ use Rattle.site.specs.declared.Site.{Site}
 use Rattle.site.specs.State.{stateOf, codeOf}
 use Rattle.site.specs.Fields.{withUp, withCoordinator, withCodes}
 use Rattle.site.specs.Records.{Written}
-use Rattle.site.specs.Rules.{keptVector, crash, recover}
+use Rattle.rules.specs.Rules.{keptVector, crash, recover}
 use Rattle.safety.specs.laws.Truth.{Terms, TrueVector}
 use Rattle.safety.specs.laws.TruthLaws.{zero-true, vector-set, says, says-code}
 use Rattle.safety.specs.laws.Fair.{Standing, FairMove, fair-stay, standing-coordinator, standing-up, standing-codes, fair-silent}

@@ -17,7 +17,7 @@ use Rattle.site.specs.declared.State.the-variants as State·
 use Rattle.site.specs.declared.Site.{Site}
 use Rattle.site.specs.State.{stateOf, isTerminated}
 use Rattle.site.specs.Records.{Written, wrote, prepareRecord, groupRecord, outcomeRecord, commit, abort, writePrepare, writeOutcome}
-use Rattle.site.specs.Rules.{Noted, silent, replying, hear, adoptCode, adopt, voteIn, joinCommitIn, joinAbortIn, after, answer, deliver}
+use Rattle.rules.specs.Rules.{Noted, silent, replying, hear, adoptCode, adopt, voteIn, joinCommitIn, joinAbortIn, after, answer, deliver}
 use Rattle.safety.specs.Claims.{writtenAt}
 use Rattle.safety.specs.laws.HistoryLaws.{grown-append}
 use Rattle.safety.specs.laws.Weights.{weighRecords, outcome-from}

@@ -19,7 +19,7 @@ use Rattle.site.specs.declared.AbortQuorum.{AbortQuorum}
 use Rattle.site.specs.State.{stateOf, commitReached, abortReached}
 use Rattle.site.specs.Fields.{withCoordinator}
 use Rattle.site.specs.Records.{Written, wrote, prepareRecord, groupRecord, outcomeRecord, commit, abort, writePrepare, joinGroup, writeOutcome}
-use Rattle.site.specs.Rules.{commanding, start, takeOver, chooseGroup, decideCommit, decideAbort, timeoutIn, timeout}
+use Rattle.rules.specs.Rules.{commanding, start, takeOver, chooseGroup, decideCommit, decideAbort, timeoutIn, timeout}
 use Rattle.choice.specs.laws.Cases.{by-test}
 use Rattle.safety.specs.Claims.{writtenAt}
 use Rattle.safety.specs.laws.HistoryLaws.{grown-append}

@@ -12,7 +12,7 @@ use Rattle.row.specs.laws.RowLaws.{getRow-else, getRow-kind, getRow-code}
 use Rattle.site.specs.State.{stateOf}
 use Rattle.site.specs.Fields.{blankSite}
 use Rattle.site.specs.Records.{Written}
-use Rattle.site.specs.Rules.{Move}
+use Rattle.rules.specs.Rules.{Move}
 use Rattle.world.specs.declared.World.{World}
 use Rattle.world.specs.Sizes.{maxRows, storeBytes}
 use Rattle.world.specs.Worlds.{siteOf, isWilling, withSite, withRows}

@@ -15,9 +15,9 @@ use Rattle.row.specs.Rows.{getRow}
 use Rattle.site.specs.declared.Site.{Site}
 use Rattle.site.specs.State.{stateOf}
 use Rattle.site.specs.Records.{Written}
-use Rattle.site.specs.Rules.{Noted, hear, adopt}
 use Rattle.site.specs.declared.CommitQuorum.{CommitQuorum}
 use Rattle.site.specs.declared.AbortQuorum.{AbortQuorum}
+use Rattle.rules.specs.Rules.{Noted, hear, adopt}
 use Rattle.command.specs.declared.Command.the-variants as Command·
 use Rattle.command.specs.declared.Delivery.{Delivery}
 use Rattle.command.specs.Commands.{readCommand, found}

@@ -14,9 +14,9 @@ use Rattle.site.specs.declared.Group.the-variants as Group·
 use Rattle.site.specs.declared.Site.{Site}
 use Rattle.site.specs.Fields.{zeroVector, blankSite, withUp, withCoordinator, withPrepared, withGroup, withOutcome, withCodes}
 use Rattle.site.specs.Records.{withOwn, writePrepare, joinGroup, writeOutcome}
-use Rattle.site.specs.Rules.{Move, hear, keptVector}
 use Rattle.site.specs.declared.CommitQuorum.{CommitQuorum}
 use Rattle.site.specs.declared.AbortQuorum.{AbortQuorum}
+use Rattle.rules.specs.Rules.{Move, hear, keptVector}
 use Rattle.world.specs.declared.World.{World}
 use Rattle.world.specs.Sizes.{sizesNumber}
 use Rattle.world.specs.Worlds.{downSites, zeroWorld, freshSites, freshWorld, siteOf, withSite, withRows}

@@ -25,7 +25,7 @@ use Rattle.site.specs.State.{stateBy, stateOf, codeOf}
 use Rattle.site.specs.Fields.{zeroVector, withUp, withCoordinator, withPrepared, withGroup, withOutcome, withCodes}
 use Rattle.site.specs.Records.{Kind, commit, abort, groupRecord, outcomeRecord, groupOf, outcomeOf, recordCode}
 use Rattle.site.specs.Records.{withOwn, writePrepare, joinGroup, writeOutcome}
-use Rattle.site.specs.Rules.{hear, keptVector}
+use Rattle.rules.specs.Rules.{hear, keptVector}
 use Rattle.world.specs.Valid.{validGroup, validSite}
 use Rattle.choice.specs.laws.Cases.{by-equal}
 use Rattle.safety.specs.laws.Shape.{Long, kept-length, long-steady}

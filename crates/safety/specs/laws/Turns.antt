@@ -33,7 +33,7 @@ use Rattle.site.specs.Records.{
   joinGroup,
   writeOutcome,
 }
-use Rattle.site.specs.Rules.{
+use Rattle.rules.specs.Rules.{
   Move,
   Noted,
   silent,

@@ -6,7 +6,7 @@ use mathlib.Core.Path.{_≡_}
 use lib.ListN.{length}
 use Rattle.row.specs.Rows.{getRow, rowKnown}
 use Rattle.site.specs.State.{stateOf, isActive}
-use Rattle.site.specs.Rules.{Move, start, timeout, deliver, crash, recover}
+use Rattle.rules.specs.Rules.{Move, start, timeout, deliver, crash, recover}
 use Rattle.world.specs.declared.World.{World}
 use Rattle.world.specs.Sizes.{maxRows, storeBytes}
 use Rattle.world.specs.Worlds.{siteOf, isWilling}

@@ -12,7 +12,7 @@ use Rattle.choice.specs.laws.ChoiceLaws.{pick-ind}
 use Rattle.row.specs.Bits.{hasBit}
 use Rattle.row.specs.Rows.{getRow, rowKnown}
 use Rattle.site.specs.State.{stateOf, isActive}
-use Rattle.site.specs.Rules.{Move, start, timeout, deliver, crash, recover}
+use Rattle.rules.specs.Rules.{Move, start, timeout, deliver, crash, recover}
 use Rattle.command.specs.declared.Command.{Command}
 use Rattle.command.specs.declared.Command.the-variants as Command·
 use Rattle.command.specs.declared.Target.{Target}

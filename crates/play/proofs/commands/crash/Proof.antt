@@ -1,4 +1,4 @@
-use Rattle.site.specs.Rules.{crash}
+use Rattle.rules.specs.Rules.{crash}
 use denote.Ref.{now}
 use Rattle.play.specs.laws.CallLaws.{refused-acts}
 use borrow.Author.Tests.{lt-ltb}
@@ -11,7 +11,7 @@ use Rattle.play.proofs.commands.crash.Reads as reads
 use Rattle.play.proofs.commands.crash.Lts as lts
 use Rattle.play.proofs.enter.enter.Reads as enter-reads
 use Rattle.play.proofs.enter.refused.Reads as refused-reads
-use Rattle.site.proofs.Site.crash.Reads as crash-reads
+use Rattle.rules.proofs.Participant.crash.Reads as crash-reads
 
 -- src/commands.rt:59:13
 crash-requires : tie.Need-crash-requires

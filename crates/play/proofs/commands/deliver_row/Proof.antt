@@ -1,7 +1,7 @@
 use Rattle.row.specs.laws.KnownLaws.{known-sender}
 use mathlib.Core.Path.{sym, _∙_}
 use Rattle.world.specs.Worlds.{isWilling}
-use Rattle.site.specs.Rules.{deliver}
+use Rattle.rules.specs.Rules.{deliver}
 use denote.Ref.{now}
 use Rattle.play.specs.laws.CallLaws.{refused-acts}
 use Rattle.play.specs.Commands.{deliverRow}
@@ -15,7 +15,7 @@ use Rattle.play.proofs.enter.enter.Reads as enter-reads
 use Rattle.play.proofs.enter.refused.Reads as refused-reads
 use Rattle.row.proofs.has_bit.Reads as has-bit-reads
 use Rattle.row.proofs.row_known.Reads as row-known-reads
-use Rattle.site.proofs.Site.deliver.Reads as deliver-reads
+use Rattle.rules.proofs.Participant.deliver.Reads as deliver-reads
 
 -- src/commands.rt:96:8
 row-known-requires : tie.Need-row-known-requires

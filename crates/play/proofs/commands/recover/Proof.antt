@@ -1,4 +1,4 @@
-use Rattle.site.specs.Rules.{recover}
+use Rattle.rules.specs.Rules.{recover}
 use denote.Ref.{now}
 use Rattle.play.specs.laws.CallLaws.{refused-acts}
 use borrow.Author.Tests.{lt-ltb}
@@ -11,7 +11,7 @@ use Rattle.play.proofs.commands.recover.Reads as reads
 use Rattle.play.proofs.commands.recover.Lts as lts
 use Rattle.play.proofs.enter.enter.Reads as enter-reads
 use Rattle.play.proofs.enter.refused.Reads as refused-reads
-use Rattle.site.proofs.Site.recover.Reads as recover-reads
+use Rattle.rules.proofs.Participant.recover.Reads as recover-reads
 
 -- src/commands.rt:77:9
 refused-requires : tie.Need-refused-requires

@@ -1,5 +1,5 @@
 use Rattle.world.specs.Worlds.{isWilling}
-use Rattle.site.specs.Rules.{start}
+use Rattle.rules.specs.Rules.{start}
 use denote.Ref.{now}
 use Rattle.play.specs.laws.CallLaws.{refused-acts}
 use Rattle.play.specs.Commands.{startCall}
@@ -12,7 +12,7 @@ use Rattle.play.proofs.commands.start.Lts as lts
 use Rattle.play.proofs.enter.enter.Reads as enter-reads
 use Rattle.play.proofs.enter.refused.Reads as refused-reads
 use Rattle.row.proofs.has_bit.Reads as has-bit-reads
-use Rattle.site.proofs.Site.start.Reads as start-reads
+use Rattle.rules.proofs.Participant.start.Reads as start-reads
 use Rattle.site.proofs.Site.state.Reads as state-reads
 use Rattle.site.proofs.is_active.Reads as is-active-reads
 

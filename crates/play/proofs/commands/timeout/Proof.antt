@@ -1,4 +1,4 @@
-use Rattle.site.specs.Rules.{timeout}
+use Rattle.rules.specs.Rules.{timeout}
 use denote.Ref.{now}
 use Rattle.play.specs.laws.CallLaws.{refused-acts}
 use borrow.Author.Tests.{lt-ltb}
@@ -11,7 +11,7 @@ use Rattle.play.proofs.commands.timeout.Reads as reads
 use Rattle.play.proofs.commands.timeout.Lts as lts
 use Rattle.play.proofs.enter.enter.Reads as enter-reads
 use Rattle.play.proofs.enter.refused.Reads as refused-reads
-use Rattle.site.proofs.Site.timeout.Reads as timeout-reads
+use Rattle.rules.proofs.Participant.timeout.Reads as timeout-reads
 
 -- src/commands.rt:41:13
 timeout-requires : tie.Need-timeout-requires

@@ -1,0 +1,29 @@
+use borrow.Author.Needs.{needs}
+use Rattle.site.specs.Fields.{withCodes}
+use Rattle.rules.specs.Rules.{adopt, deliver, hear}
+use Rattle.rules.proofs.Participant.deliver.Statement.{statement}
+use Rattle.rules.proofs.Participant.deliver.Tie as tie
+use Rattle.rules.proofs.Participant.deliver.Reads as reads
+use Rattle.rules.proofs.Participant.deliver.Lts as lts
+use Rattle.rules.proofs.deliver.adopt.Reads as adopt-reads
+use Rattle.rules.proofs.deliver.answer.Reads as answer-reads
+use Rattle.vector.proofs.merge.Reads as merge-reads
+
+merge-requires : tie.Need-merge-requires
+merge-requires c κs = search needs
+
+adopt-requires : tie.Need-adopt-requires
+adopt-requires c κs = search needs
+
+answer-requires : tie.Need-answer-requires
+answer-requires c κs = search needs
+
+returns : tie.Need-returns
+unfolding deliver hear withCodes
+returns c =
+    let a = c .before .before .before .before .before .before .args in
+    rw (c .before .adopt .ensures, c .before .before .merge .ensures) at
+    (c .answer .ensures (adopt (a .self .own) (a .self .n) (hear (a .self .own) (a .self .n) (a .row .codes) (a .self .site)) .records))
+
+pub deliver-spec : {M : Type 1} → statement M
+deliver-spec = tie.close (tie.spec merge-requires adopt-requires answer-requires returns)

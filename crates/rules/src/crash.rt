@@ -1,0 +1,46 @@
+// CRASH and RECOVER.
+ghost use mathlib.Core.Path.{_≡_};
+ghost use Prim.Native.Nat.{_<_};
+ghost use Rattle.rules.specs.Rules.{keptVector, crash, recover};
+use crate::Participant;
+use crate::Step;
+use crate::send::silent;
+use site::Group;
+use site::Site;
+
+// What a crash leaves of the vector.
+fn kept_vector(site: Site) -> [u8; 16]
+    ensures { λ r. ⌜ r ≡ keptVector (site .group) (site .joined) ⌝ }
+{
+    let group = site.group;
+    let joined = site.joined;
+    let none = [0; 16];
+    match group {
+        Group::None => none,
+        Group::Commit => joined,
+        Group::Abort => joined,
+    }
+}
+
+impl Participant {
+    pub fn crash(mut self) -> Step
+        requires { ⌜ self .own < 16 ⌝ }
+        ensures { λ r. ⌜ r ≡ (crash (self .own) (self .site)) .step ⌝ }
+    {
+        let own = self.own;
+        let mut site = self.site;
+        let mut codes = kept_vector(site);
+        codes[own] = site::code_of(site.state());
+        site.up = false;
+        site.coordinator = false;
+        site.codes = codes;
+        silent(site)
+    }
+
+    pub fn recover(mut self) -> Step
+        ensures { λ r. ⌜ r ≡ (recover (self .site)) .step ⌝ }
+    {
+        self.site.up = true;
+        silent(self.site)
+    }
+}
