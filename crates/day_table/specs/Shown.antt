@@ -9,7 +9,7 @@ use Rattle.row.specs.Rows.{getRow}
 use Rattle.site.specs.Records.{Written}
 use Rattle.list.specs.Play.{Play, headerWorld, playList}
 use Rattle.play.specs.Run.{run}
-use Rattle.report.specs.Lines.{codeDigits}
+use Rattle.lines.specs.Lines.{codeDigits}
 use Rattle.report.specs.Report.{reportText}
 
 -- THE COMMANDS of a list, as bytes

@@ -7,7 +7,7 @@ use lib.ListN.{length}
 use lib.Seq.{sets}
 use Rattle.choice.specs.Choice.{pick, both}
 use Rattle.list.specs.declared.ListPlayed.{ListPlayed}
-use Rattle.report.specs.Lines.{lastLine}
+use Rattle.lines.specs.Lines.{lastLine}
 use Rattle.report.specs.Report.{report}
 
 -- a number of length or header

@@ -24,7 +24,7 @@ pub fn show(played: ListPlayed, buffer: &mut [u8]) -> usize
 {
     let number = played.number;
     if is_header_number(number) {
-        return report::put_last(buffer, 0, wide(number), 0);
+        return lines::put_last(buffer, 0, wide(number), 0);
     }
     let world = played.world;
     let reported = report::write_report(world, played.events, number, played.place, buffer);

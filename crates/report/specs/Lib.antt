@@ -1,4 +1,3 @@
-pub mod Lines
 pub mod Report
 pub mod Claims
 pub mod laws

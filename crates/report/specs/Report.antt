@@ -11,7 +11,7 @@ use Rattle.world.specs.declared.World.{World}
 use Rattle.world.specs.Sizes.{listBytes, reportBytes}
 use Rattle.world.specs.Valid.{validWorld}
 use Rattle.report.specs.declared.Reported.{Reported}
-use Rattle.report.specs.Lines.{sizesLine, siteLines, lastLine}
+use Rattle.lines.specs.Lines.{sizesLine, siteLines, lastLine}
 
 -- the whole text
 unfoldable pub reportText : World → ℕ → ℕ → ℕ → List ℕ

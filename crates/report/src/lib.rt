@@ -1,10 +1,6 @@
 // The report.
-mod lines;
-mod log;
-mod words;
 mod write;
 
-pub use lines::put_last;
 pub use write::write_report;
 
 // The last number of document 01's table.

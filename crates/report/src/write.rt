@@ -7,9 +7,9 @@ ghost use Rattle.text.specs.laws.Written.{Written};
 ghost use Rattle.report.specs.Report.{reportText, reportValid, report};
 use crate::LAST_NUMBER;
 use crate::Reported;
-use crate::lines::put_last;
-use crate::lines::put_sites;
-use crate::lines::put_sizes;
+use lines::put_last;
+use lines::put_sites;
+use lines::put_sizes;
 use world::World;
 
 // What 17 asks of the report's values.

@@ -17,7 +17,7 @@ use Rattle.play.specs.Commands.{startCall, timeoutCall, crashCall, recoverCall,
 use Rattle.play.specs.Run.{callOf, afterCall, run}
 use Rattle.list.specs.Play.{headerOf, headerSizes, headerNumber, headerWorld, stopped, afterAsk, askAt, playFrom, refusedList, playList}
 use Rattle.text.specs.Text.{text, digitAt, decimal, named}
-use Rattle.report.specs.Lines.{sizesLine, upWord, roleWord, stateWord, prepareLetter, groupLetter, outcomeLetter, logLetters, codeDigits, siteLine, siteLines, lastLine}
+use Rattle.lines.specs.Lines.{sizesLine, upWord, roleWord, stateWord, prepareLetter, groupLetter, outcomeLetter, logLetters, codeDigits, siteLine, siteLines, lastLine}
 use Rattle.report.specs.Report.{reportText}
 use Rattle.day_table.specs.Shown.{Shown, START, DELIVER, TIMEOUT, CRASH, RECOVER, three, bits, sent, prepare, vote, joinAbort, inGroup, outcome, sentBy, rowsSent, lines, shownBy, shown}
 use Rattle.day_table.specs.Claims.{played, stated, DaysHold}

@@ -9,7 +9,7 @@ use Rattle.player.proofs.show.show.Tie as tie
 use Rattle.player.proofs.show.show.Reads as reads
 use Rattle.player.proofs.show.show.Lts as lts
 use Rattle.player.proofs.show.is_header_number.Reads as is-header-number-reads
-use Rattle.report.proofs.put_last.Reads as put-last-reads
+use Rattle.lines.proofs.put_last.Reads as put-last-reads
 use Rattle.report.proofs.write_report.Reads as write-report-reads
 use Rattle.word.proofs.wide.Reads as wide-reads
 

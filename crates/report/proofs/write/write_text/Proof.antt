@@ -7,9 +7,9 @@ use Rattle.report.proofs.write.write_text.Statement.{statement}
 use Rattle.report.proofs.write.write_text.Tie as tie
 use Rattle.report.proofs.write.write_text.Reads as reads
 use Rattle.report.proofs.write.write_text.Lts as lts
-use Rattle.report.proofs.lines.put_last.Reads as put-last-reads
-use Rattle.report.proofs.lines.put_sites.Reads as put-sites-reads
-use Rattle.report.proofs.lines.put_sizes.Reads as put-sizes-reads
+use Rattle.lines.proofs.put_last.Reads as put-last-reads
+use Rattle.lines.proofs.put_sites.Reads as put-sites-reads
+use Rattle.lines.proofs.put_sizes.Reads as put-sizes-reads
 
 put-sizes-requires : tie.Need-put-sizes-requires
 put-sizes-requires c κs =
