@@ -1,6 +1,6 @@
--- THE DAYS AT THREE CLUBS marked M in document 01, "Days at three clubs": each list of bytes, and what playing it is to show.
--- Written from the paper. n = 3, C = A = 2, all willing (bits 7) unless said. A report's site line is: number, up or down, role,
--- state, log, n codes. A row is: kind, sender, destinations, codes.
+-- THE DAYS AT THREE CLUBS marked M in document 01, "Days at three clubs": each list of bytes, and what playing it is to show. T1 is not
+-- among them: it plays a temptation. Written from the paper. n = 3, C = A = 2, all willing (bits 7) unless said. A report's site line
+-- is: number, up or down, role, state, log, n codes. A row is: kind, sender, destinations, codes.
 use Prim.Native.Nat.{ℕ}
 use mathlib.Core.List.{List, [], _∷_, _++_}
 use Rattle.site.specs.Records.{wrote, prepareRecord, groupRecord, outcomeRecord, abort}
@@ -254,6 +254,55 @@ M10 =
           };
     }
 
+-- T1 code 3 is no prepare ("Where a builder is tempted"): START, row 0 to site 1, TIMEOUT 0, row 2 to site 2, row 3 to site 0,
+-- TIMEOUT 1, row 4 to site 0, row 5 to site 1, which now holds 313: no entry is 0, yet site 2 has not prepared. TIMEOUT 1: site 1
+-- joins the abort group, codes 333
+unfoldable pub T1 : Day
+T1 =
+    record {
+      list =
+          three 7
+          ++ START
+          ++ DELIVER 0 1
+          ++ TIMEOUT 0
+          ++ DELIVER 2 2
+          ++ DELIVER 3 0
+          ++ TIMEOUT 1
+          ++ DELIVER 4 0
+          ++ DELIVER 5 1
+          ++ TIMEOUT 1;
+      expected =
+          record {
+            number = 0;
+            place = 32;
+            events = 9;
+            rows =
+                prepare 0 (1 ∷ 2 ∷ []) "100"
+                ∷ vote 1 (0 ∷ []) "110"
+                ∷ joinAbort 0 (1 ∷ 2 ∷ []) "300"
+                ∷ inGroup 2 (0 ∷ []) "303"
+                ∷ prepare 1 (0 ∷ 2 ∷ []) "110"
+                ∷ vote 0 (1 ∷ []) "313"
+                ∷ joinAbort 1 (0 ∷ 2 ∷ []) "333"
+                ∷ [];
+            records =
+                wrote 0 prepareRecord
+                ∷ wrote 1 prepareRecord
+                ∷ wrote 0 (groupRecord abort)
+                ∷ wrote 2 (groupRecord abort)
+                ∷ wrote 1 (groupRecord abort)
+                ∷ [];
+            report =
+                lines
+                ("sites 3 commit 2 abort 2 events 9 rows 7"
+                ∷ "0 up coordinator abort-group PA- 313"
+                ∷ "1 up coordinator abort-group PA- 333"
+                ∷ "2 up subordinate abort-group -A- 303"
+                ∷ "end 32"
+                ∷ []);
+          };
+    }
+
 -- THE TABLE
 unfoldable pub days : List Day
-days = M1 ∷ M2 ∷ M3 ∷ M4 ∷ M5 ∷ M6 ∷ M7 ∷ M8 ∷ M9 ∷ M10 ∷ []
+days = M1 ∷ M2 ∷ M3 ∷ M4 ∷ M5 ∷ M6 ∷ M7 ∷ M8 ∷ M9 ∷ M10 ∷ T1 ∷ []

@@ -4,6 +4,7 @@ use case_line::day;
 pub fn cases() {
     ends();
     groups();
+    prepares();
     crashes();
 }
 
@@ -33,6 +34,16 @@ fn groups() {
         b"the abort group stays at a join commit",
         b"\x03\x02\x02\x07\x00\x01\x02\x00\x00\x01\x02\x00\x00\x02\x02\x01\x00\x00\x02\x02\x00\x00\x03\x00\x03\x02\x03\x02\x02\x03\x00\x02\x02\x06\x00\x00\x03\x00",
         b"sites 3 commit 2 abort 2 events 11 rows 8\n0 up coordinator commit-group PC- 213\n1 up subordinate prepared P-- 110\n2 up coordinator abort-group PA- 213\nend 38\n",
+    );
+}
+
+// Site 1, prepared, holds 313 after START, row 0 to 1, TIMEOUT 0, row 2 to 2, row 3 to 0, TIMEOUT 1, row 4 to 0 and row 5 to 1. Site 2 has
+// joined without P, so TIMEOUT 1 joins the abort group.
+fn prepares() {
+    day(
+        b"T1 code 3 is no prepare",
+        b"\x03\x02\x02\x07\x00\x01\x02\x00\x00\x01\x03\x00\x02\x02\x00\x02\x02\x03\x00\x00\x03\x01\x02\x04\x00\x00\x02\x05\x00\x01\x03\x01",
+        b"sites 3 commit 2 abort 2 events 9 rows 7\n0 up coordinator abort-group PA- 313\n1 up coordinator abort-group PA- 333\n2 up subordinate abort-group -A- 303\nend 32\n",
     );
 }
 
