@@ -1,3 +1,4 @@
 pub mod Numbers
 pub mod Layout
+pub mod Claims
 pub mod laws

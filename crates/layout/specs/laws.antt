@@ -1,3 +1,4 @@
 pub mod NumberLaws
 pub mod SiteLaws
 pub mod LayoutLaws
+pub mod ChangeLaws

@@ -1,13 +1,12 @@
-// A world as 656 bytes: written, read, and the test that bytes are inside the layout.
-mod check;
-mod read;
+// A world as 656 bytes: its length, the place of a site, the bytes of flags, groups and outcomes.
 mod values;
-mod write;
 
-pub use check::in_layout;
-pub use read::world_at;
-pub use write::put_number;
-pub use write::put_world;
+pub use values::flag_byte;
+pub use values::group_byte;
+pub use values::group_of;
+pub use values::outcome_byte;
+pub use values::outcome_of;
+pub use values::site_place;
 
 // The length of a world.
 pub const WORLD_BYTES: usize = 656;

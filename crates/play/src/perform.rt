@@ -17,11 +17,15 @@ fn play_command(world: World, store: &mut [u8], list: &[u8], at: usize) -> Playe
 {
     let reading = command::read_command(list, at);
     let own = actor(reading, world.n);
-    let change = act(reading, head_of(world), world.site(own), store, at);
-    let site = change.site;
+    let mut next = world;
+    let site = next.sites[own];
+    let change = act(reading, head_of(world), site, store, at);
+    let after = change.site;
+    next.sites[own] = after;
+    next.rows = change.rows;
     Played {
         number: change.number,
-        world: world.put_site(own, site).put_rows(change.rows),
+        world: next,
         place: change.place,
     }
 }

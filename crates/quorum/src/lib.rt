@@ -1,12 +1,15 @@
 // The calls offered to C, on byte slices and numbers. docs/LAYOUT.md has the bytes; include/quorum.h says how to call.
+mod command_at;
+
 ghost use mathlib.Core.Path.{_≡_};
 ghost use Rattle.quorum.specs.Calls.{unfitNumber, listCall, commandCall, reportCall};
+use command_at::play_at;
 use world::World;
 
 // The length of every result buffer.
 const RESULT_BYTES: usize = 8;
 
-fn number_of(number: u8) -> u32
+pub fn number_of(number: u8) -> u32
     ensures { λ r. ⌜ r ≡ number ⌝ }
 {
     number as u32
@@ -43,9 +46,9 @@ pub extern "C" fn qc_play_list(
     }
     let played = list::play_list(store, list);
     let after = played.world;
-    layout::put_world(world, after);
-    layout::put_number(result, 0, 4, played.events);
-    layout::put_number(result, 4, 4, played.place);
+    encode::put_world(world, after);
+    encode::put_number(result, 0, 4, played.events);
+    encode::put_number(result, 4, 4, played.place);
     number_of(played.number)
 }
 
@@ -69,18 +72,13 @@ pub extern "C" fn qc_play_command(
     if result.len() != RESULT_BYTES {
         return 17;
     }
-    if !layout::in_layout(world) {
+    if !decode::in_layout(world) {
         return 17;
     }
-    let before = layout::world_at(world);
-    let played = play::one_command(before, store, list, at);
-    if played.number != 0 {
-        return number_of(played.number);
+    if !decode::valid_at(world) {
+        return 17;
     }
-    let after = played.world;
-    layout::put_world(world, after);
-    layout::put_number(result, 0, 8, played.place);
-    0
+    play_at(world, store, list, at, result)
 }
 
 // The report.
@@ -100,17 +98,17 @@ pub extern "C" fn qc_report(
     if result.len() != RESULT_BYTES {
         return 17;
     }
-    if !layout::in_layout(world) {
+    if !decode::in_layout(world) {
         return 17;
     }
     if report::LAST_NUMBER < number as usize {
         return 17;
     }
-    let before = layout::world_at(world);
+    let before = decode::world_at(world);
     let reported = report::write_report(before, events, number as u8, place, buffer);
     if reported.number != 0 {
         return number_of(reported.number);
     }
-    layout::put_number(result, 0, 8, reported.length);
+    encode::put_number(result, 0, 8, reported.length);
     0
 }

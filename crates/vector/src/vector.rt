@@ -2,9 +2,9 @@
 ghost use mathlib.Core.Path.{_≡_};
 ghost use Prim.Native.Nat.{_+_, _<_, _≤_};
 ghost use lib.Dec.{ltb};
-ghost use Rattle.choice.specs.Choice.{pick, both};
+ghost use Rattle.choice.specs.Choice.{pick};
 ghost use Rattle.vector.specs.Codes.{level};
-ghost use Rattle.vector.specs.Vector.{entryWeight, merge as mergeOf, count as countOf, lowestOutcome, validEntry, validVector};
+ghost use Rattle.vector.specs.Vector.{entryWeight, merge as mergeOf, count as countOf, lowestOutcome};
 use crate::codes::is_outcome;
 use crate::codes::level;
 
@@ -71,30 +71,4 @@ pub fn lowest_outcome(n: usize, codes: [u8; 16]) -> u8
         k += 1;
     }
     0
-}
-
-// The entries before k are valid, and the code at k is.
-fn valid_through(before: bool, n: usize, k: usize, code: u8) -> bool
-    ensures { λ r. ⌜ r ≡ both before (validEntry n k code) ⌝ }
-{
-    if before {
-        if k < n {
-            return code <= 5;
-        }
-        return code == 0;
-    }
-    false
-}
-
-// Every entry below n is at most 5 and every other one 0.
-pub fn valid_vector(n: usize, codes: [u8; 16]) -> bool
-    ensures { λ r. ⌜ r ≡ validVector n codes ⌝ }
-{
-    let mut valid = true;
-    let mut k = 0;
-    while k < 16 {
-        valid = valid_through(valid, n, k, codes[k]);
-        k += 1;
-    }
-    valid
 }

@@ -1,3 +1,4 @@
 pub mod SizesLaws
 pub mod WorldLaws
 pub mod PartLaws
+pub mod LimitLaws

@@ -5,6 +5,8 @@ mod sizes;
 mod valid;
 
 pub use sizes::sizes_number;
+pub use valid::valid_head;
+pub use valid::valid_through;
 
 pub struct World {
     pub sites: [site::Site; World::SITES],

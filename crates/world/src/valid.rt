@@ -1,76 +1,117 @@
-// The check behind 17, for a world handed in to one command or to the report.
+// The check behind 17, for a world handed in to one command or to the report. The limits of a vector's entries are made once for the
+// world; a promise about them is made for every n that they are the limits of.
 ghost use mathlib.Core.Path.{_≡_};
-ghost use Prim.Native.Nat.{_≤_, _<_};
-ghost use lib.Dec.{eqb};
+ghost use Prim.Native.Nat.{ℕ, _≤_, _<_};
+ghost use lib.Dec.{leb, eqb};
 ghost use lib.ListN.{getD};
 ghost use Rattle.choice.specs.Choice.{both};
-ghost use Rattle.vector.specs.Vector.{validVector};
-ghost use Rattle.world.specs.Worlds.{siteOf};
+ghost use Rattle.vector.specs.laws.Limits.{limitsTo, within};
+ghost use Rattle.world.specs.Sizes.{maxRows, sizesNumber};
 ghost use Rattle.world.specs.Valid.{validGroup, validSite, validSites, validWorld};
+ghost use Rattle.world.specs.laws.LimitLaws.{groupCode, groupLimits};
 use crate::World;
 use crate::sizes::sizes_number;
+use site::AbortQuorum;
+use site::CommitQuorum;
 use site::Group;
 use site::Site;
 
-// A vector of n entries, whose own entry is the code.
-fn valid_own(own: usize, n: usize, codes: [u8; 16], code: u8) -> bool
+// A vector within its limits, whose own entry is the code.
+fn valid_own(own: usize, limits: [u8; 16], codes: [u8; 16], code: u8) -> bool
     requires { ⌜ own < 16 ⌝ }
-    ensures { λ r. ⌜ r ≡ both (validVector n codes) (eqb (getD codes own 0) code) ⌝ }
+    ensures { λ r. ⌜ r ≡ both (within 16 limits codes) (eqb (getD codes own 0) code) ⌝ }
 {
     let entry = codes[own];
-    if vector::valid_vector(n, codes) {
+    if vector::valid_within(limits, codes) {
         return entry == code;
     }
     false
 }
 
-// A group record's vector: its own entry is the group, and it is all 0 with no group.
-fn valid_group(group: Group, own: usize, n: usize, joined: [u8; 16]) -> bool
-    requires { ⌜ own < 16 ⌝ }
-    ensures { λ r. ⌜ r ≡ validGroup group own n joined ⌝ }
+// The own entry of a group record's vector.
+fn group_code(group: Group) -> u8
+    ensures { λ r. ⌜ r ≡ groupCode group ⌝ }
 {
     match group {
-        Group::None => vector::valid_vector(0, joined),
-        Group::Commit => valid_own(own, n, joined, 2),
-        Group::Abort => valid_own(own, n, joined, 3),
+        Group::None => 0,
+        Group::Commit => 2,
+        Group::Abort => 3,
     }
 }
 
-// A site: its vector, whose own entry is its state, and its group record.
-fn valid_site(own: usize, n: usize, site: Site) -> bool
+// The limits of a group record's vector: all 0 with no group.
+fn group_limits(group: Group, limits: [u8; 16]) -> [u8; 16]
+    ensures { λ r. ⌜ r ≡ groupLimits group limits ⌝ }
+{
+    match group {
+        Group::None => [0; 16],
+        Group::Commit => limits,
+        Group::Abort => limits,
+    }
+}
+
+// A group record's vector: its own entry is the group, and it is all 0 with no group.
+fn valid_group(group: Group, own: usize, limits: [u8; 16], joined: [u8; 16]) -> bool
     requires { ⌜ own < 16 ⌝ }
-    ensures { λ r. ⌜ r ≡ validSite own n site ⌝ }
+    ensures { λ r. ⌜ ((n : ℕ) → limits ≡ limitsTo n → r ≡ validGroup group own n joined) ⌝ }
+{
+    let most = group_limits(group, limits);
+    valid_own(own, most, joined, group_code(group))
+}
+
+// A site: its vector, whose own entry is its state, and its group record.
+fn valid_site(own: usize, limits: [u8; 16], site: Site) -> bool
+    requires { ⌜ own < 16 ⌝ }
+    ensures { λ r. ⌜ ((n : ℕ) → limits ≡ limitsTo n → r ≡ validSite own n site) ⌝ }
 {
     let codes = site.codes;
     let group = site.group;
     let joined = site.joined;
-    if valid_own(own, n, codes, site::code_of(site.state())) {
-        return valid_group(group, own, n, joined);
+    if valid_own(own, limits, codes, site::code_of(site.state())) {
+        return valid_group(group, own, limits, joined);
     }
     false
 }
 
-impl World {
-    // The sites before k are valid, and site k is.
-    fn valid_through(self, before: bool, k: usize) -> bool
-        requires { ⌜ k < 16 ⌝ }
-        ensures { λ r. ⌜ r ≡ both before (validSite k (self .n) (siteOf self k)) ⌝ }
-    {
-        if before {
-            return valid_site(k, self.n, self.site(k));
-        }
-        false
+// The sites before are valid, and this one is.
+pub fn valid_through(before: bool, own: usize, limits: [u8; 16], site: Site) -> bool
+    requires { ⌜ own < 16 ⌝ }
+    ensures { λ r. ⌜ ((n : ℕ) → limits ≡ limitsTo n → r ≡ both before (validSite own n site)) ⌝ }
+{
+    if before {
+        return valid_site(own, limits, site);
     }
+    false
+}
 
+// Sizes and row count.
+pub fn valid_head(
+    n: usize,
+    commit: CommitQuorum,
+    abort: AbortQuorum,
+    willing: usize,
+    rows: usize,
+) -> bool
+    ensures { λ r. ⌜ r ≡ both (eqb (sizesNumber n commit abort willing) 0) (leb rows maxRows) ⌝ }
+{
+    if sizes_number(n, commit, abort, willing) != 0 {
+        return false;
+    }
+    rows <= World::ROWS
+}
+
+impl World {
     fn valid_sites(self) -> bool
         requires { ⌜ self .n ≤ 16 ⌝ }
         ensures { λ r. ⌜ r ≡ validSites (self .n) self ⌝ }
     {
         let n = self.n;
+        let limits = vector::valid_limits(n);
         let mut valid = true;
         let mut k = 0;
         while k < n {
-            valid = self.valid_through(valid, k);
+            let site = self.sites[k];
+            valid = valid_through(valid, k, limits, site);
             k += 1;
         }
         valid
@@ -82,12 +123,9 @@ impl World {
     {
         let commit = self.commit;
         let abort = self.abort;
-        if sizes_number(self.n, commit, abort, self.willing) != 0 {
-            return false;
+        if valid_head(self.n, commit, abort, self.willing, self.rows) {
+            return self.valid_sites();
         }
-        if World::ROWS < self.rows {
-            return false;
-        }
-        self.valid_sites()
+        false
     }
 }

@@ -20,18 +20,8 @@ use Rattle.world.specs.Worlds.{downSites, siteOf}
 use Rattle.layout.specs.Numbers.{shifted, putNumber, wordAt}
 use Rattle.layout.specs.laws.NumberLaws.{putNumber-length, putNumber-else, putNumber-at, putNumber-same, word-written, word-same, word-else}
 use Rattle.layout.specs.Layout.{sitePlace, putHead, putSite, putSites, putWorld, siteAt, sitesFrom, worldAt, atMost, siteInLayout, sitesInLayout, inLayout, worldBytes}
+use Rattle.layout.specs.Claims.{Fits, WorldReadBack, BytesWrittenBack, WrittenInside}
 use Rattle.layout.specs.laws.SiteLaws.{putSite-length, putSite-else, siteAt-same, site-read-back, zeros-held, site-written-back, most-all, zero-at, siteInLayout-same, site-inside}
-
--- what the bytes can hold: sixteen sites with vectors of sixteen codes, and numbers that fit their fields
-pub record Fits (w : World) : Type 0 where
-  pub sites : length (w .sites) ≡ 16
-  pub codes : (j : ℕ) → j < 16 → length (siteOf w j .codes) ≡ 16
-  pub joined : (j : ℕ) → j < 16 → length (siteOf w j .joined) ≡ 16
-  pub n-fits : w .n < 256
-  pub commit-fits : w .commit .0 < 65536
-  pub abort-fits : w .abort .0 < 65536
-  pub willing-fits : w .willing < 65536
-  pub rows-fit : w .rows < 65536
 
 -- the sites written
 
@@ -163,7 +153,7 @@ world-same v w a b c d e f =
     z
 
 -- A WORLD WRITTEN AND READ
-pub world-read-back : (b : List ℕ) (w : World) → 656 ≤ length b → Fits w → worldAt (putWorld b w) ≡ w
+pub world-read-back : WorldReadBack
 unfolding worldAt putWorld siteOf
 world-read-back b w room f =
     let long : 656 ≤ length (putHead b w) = rw putHead-length room in
@@ -181,12 +171,12 @@ world-read-back b w room f =
 
 -- bytes that are there already
 
-byte-held : (b : List ℕ) (at x : ℕ) → x % 256 ≡ getD b at 0 → putNumber 1 b at x ≡ b
+pub byte-held : (b : List ℕ) (at x : ℕ) → x % 256 ≡ getD b at 0 → putNumber 1 b at x ≡ b
 unfolding shifted
 byte-held b at x e =
     putNumber-same 1 b at x (λ i h. let z : _≡_ {A = ℕ} i 0 = omega arith in rw (z, add-zero) e)
 
-word-held : (b : List ℕ) (at : ℕ) → ((i : ℕ) → getD b i 0 < 256) → putNumber 2 b at (wordAt b at) ≡ b
+pub word-held : (b : List ℕ) (at : ℕ) → ((i : ℕ) → getD b i 0 < 256) → putNumber 2 b at (wordAt b at) ≡ b
 unfolding shifted wordAt
 word-held b at small =
     putNumber-same 2 b at (wordAt b at)
@@ -197,15 +187,39 @@ word-held b at small =
     let z : _≡_ {A = ℕ} i 1 = omega arith in
     rw z (omega (arith, small at, small (at + 1)))))
 
+-- what the layout asks
+pub record InsideParts (b : List ℕ) : Type 0 where
+  pub exact : length b ≡ worldBytes
+  pub number : getD b 0 0 ≡ 1
+  pub zeros : atMost 6 b 10 0 ≡ true
+  pub sites : sitesInLayout 16 b ≡ true
+
+pub inside-parts : (b : List ℕ) → inLayout b ≡ true → InsideParts b
+unfolding inLayout
+inside-parts b e =
+    let rest : both (eqb (getD b 0 0) 1) (both (atMost 6 b 10 0) (sitesInLayout 16 b)) ≡ true =
+    both-second (eqb (length b) worldBytes) (both (eqb (getD b 0 0) 1) (both (atMost 6 b 10 0) (sitesInLayout 16 b))) e in
+    let parts : both (atMost 6 b 10 0) (sitesInLayout 16 b) ≡ true =
+    both-second (eqb (getD b 0 0) 1) (both (atMost 6 b 10 0) (sitesInLayout 16 b)) rest in
+    record {
+      exact =
+          eqb-true (length b) worldBytes
+          (both-first (eqb (length b) worldBytes) (both (eqb (getD b 0 0) 1) (both (atMost 6 b 10 0) (sitesInLayout 16 b))) e);
+      number = eqb-true (getD b 0 0) 1 (both-first (eqb (getD b 0 0) 1) (both (atMost 6 b 10 0) (sitesInLayout 16 b)) rest);
+      zeros = both-first (atMost 6 b 10 0) (sitesInLayout 16 b) parts;
+      sites = both-second (atMost 6 b 10 0) (sitesInLayout 16 b) parts;
+    }
+
 -- what the layout says of each part
-sites-each : (k : ℕ) (b : List ℕ) → sitesInLayout k b ≡ true → (i : ℕ) → i < k → siteInLayout b (sitePlace i) ≡ true
+pub sites-each : (k : ℕ) (b : List ℕ) → sitesInLayout k b ≡ true → (i : ℕ) → i < k → siteInLayout b (sitePlace i) ≡ true
 unfolding sitesInLayout
 sites-each zero b e i h = absurd (omega arith)
 sites-each (suc k) b e i h =
     by-equal i k (λ q. rw q (both-second (sitesInLayout k b) (siteInLayout b (sitePlace k)) e))
     (λ q. sites-each k b (both-first (sitesInLayout k b) (siteInLayout b (sitePlace k)) e) i (omega arith))
 
-site-of : (k : ℕ) (b : List ℕ) → k < 16 → siteOf (worldAt b) k ≡ siteAt b (sitePlace k)
+-- a site of the world read
+pub site-of : (k : ℕ) (b : List ℕ) → k < 16 → siteOf (worldAt b) k ≡ siteAt b (sitePlace k)
 unfolding siteOf worldAt
 site-of k b h = sitesFrom-at 16 b k (blankSite false) h (omega arith)
 
@@ -225,18 +239,11 @@ head-held b small number zeros =
     (zeros-held 6 b 10 zeros)
 
 -- BYTES READ AND WRITTEN: a byte is below 256
-pub bytes-written-back :
-    (b : List ℕ) → inLayout b ≡ true → ((i : ℕ) → getD b i 0 < 256) → putWorld b (worldAt b) ≡ b
-unfolding putWorld inLayout
+pub bytes-written-back : BytesWrittenBack
+unfolding putWorld
 bytes-written-back b e small =
-    let rest : both (eqb (getD b 0 0) 1) (both (atMost 6 b 10 0) (sitesInLayout 16 b)) ≡ true =
-    both-second (eqb (length b) worldBytes) (both (eqb (getD b 0 0) 1) (both (atMost 6 b 10 0) (sitesInLayout 16 b))) e in
-    let parts : both (atMost 6 b 10 0) (sitesInLayout 16 b) ≡ true =
-    both-second (eqb (getD b 0 0) 1) (both (atMost 6 b 10 0) (sitesInLayout 16 b)) rest in
-    let number : getD b 0 0 ≡ 1 =
-    eqb-true (getD b 0 0) 1 (both-first (eqb (getD b 0 0) 1) (both (atMost 6 b 10 0) (sitesInLayout 16 b)) rest) in
-    rw (head-held b small number (both-first (atMost 6 b 10 0) (sitesInLayout 16 b) parts))
-    (sites-held 16 b (both-second (atMost 6 b 10 0) (sitesInLayout 16 b) parts) (omega arith))
+    rw (head-held b small (inside-parts b e .number) (inside-parts b e .zeros))
+    (sites-held 16 b (inside-parts b e .sites) (omega arith))
 
 -- the head's first byte and its zeros
 
@@ -281,7 +288,7 @@ sites-all (suc k) b h =
     both-on (sitesInLayout k b) (siteInLayout b (sitePlace k)) (sites-all k b (λ i l. h i (omega arith))) (h k (omega arith))
 
 -- EVERY WORLD WRITTEN IS INSIDE THE LAYOUT
-pub written-inside : (b : List ℕ) (w : World) → length b ≡ worldBytes → inLayout (putWorld b w) ≡ true
+pub written-inside : WrittenInside
 unfolding inLayout putWorld
 written-inside b w same =
     let room : 656 ≤ length b = omega arith in
@@ -301,10 +308,7 @@ written-inside b w same =
 
 -- bytes inside the layout have a world's length
 pub inside-exact : (b : List ℕ) → inLayout b ≡ true → length b ≡ worldBytes
-unfolding inLayout
-inside-exact b e =
-    eqb-true (length b) worldBytes
-    (both-first (eqb (length b) worldBytes) (both (eqb (getD b 0 0) 1) (both (atMost 6 b 10 0) (sitesInLayout 16 b))) e)
+inside-exact b e = inside-parts b e .exact
 
 pub inside-length : (b : List ℕ) → inLayout b ≡ true → worldBytes ≤ length b
 inside-length b e = omega (arith, inside-exact b e)

@@ -7,8 +7,8 @@ use Rattle.quorum.proofs.qc_play_list.Reads as reads
 use Rattle.quorum.proofs.qc_play_list.Lts as lts
 use Rattle.quorum.proofs.number_of.Reads as number-of-reads
 use Rattle.quorum.proofs.unfit_number.Reads as unfit-number-reads
-use Rattle.layout.proofs.put_number.Reads as put-number-reads
-use Rattle.layout.proofs.put_world.Reads as put-world-reads
+use Rattle.encode.proofs.put_number.Reads as put-number-reads
+use Rattle.encode.proofs.put_world.Reads as put-world-reads
 use Rattle.list.proofs.play_list.Reads as play-list-reads
 
 -- src/lib.rt:39:9

@@ -1,6 +1,10 @@
-use Rattle.play.specs.laws.Changes.{headOf, worldOf, changed}
 use native.Mathlib.Omega.{arith}
+use Prim.Native.Nat.{_<_}
+use lib.ListN.{length, length-map}
 use denote.Ref.{now}
+use Rattle.world.specs.Worlds.{withSite, withRows}
+use Rattle.world.specs.laws.PartLaws.{siteOf-within}
+use Rattle.play.specs.laws.Changes.{headOf, worldOf, changed}
 use Rattle.play.specs.laws.CallLaws.{acts-played}
 use borrow.Author.Needs.{needs}
 use Rattle.play.proofs.perform.play_command.Statement.{statement}
@@ -11,49 +15,46 @@ use Rattle.command.proofs.read_command.Reads as read-command-reads
 use Rattle.play.proofs.acts.act.Reads as act-reads
 use Rattle.play.proofs.acts.actor.Reads as actor-reads
 use Rattle.play.proofs.apart.head_of.Reads as head-of-reads
-use Rattle.world.proofs.World.put_rows.Reads as put-rows-reads
-use Rattle.world.proofs.World.put_site.Reads as put-site-reads
-use Rattle.world.proofs.World.site.Reads as site-reads
 
--- src/perform.rt:18:9
 read-command-requires : tie.Need-read-command-requires
 read-command-requires c κs = search needs
 
--- src/perform.rt:19:9
 actor-requires : tie.Need-actor-requires
 unfolding headOf
 actor-requires c κs = omega (arith, c .before .before .before .pre .low)
 
--- src/perform.rt:20:31
+mul-site : tie.Need-mul-site
+unfolding headOf
+mul-site c = omega (arith, c .before .before .before .before .pre .high)
+
+element-copy-out-site : tie.Need-element-copy-out-site
+unfolding headOf
+element-copy-out-site c = omega (arith, c .before .before .before .before .pre .high)
+
 head-of-requires : tie.Need-head-of-requires
 head-of-requires c κs = search needs
 
--- src/perform.rt:20:47
-site-requires : tie.Need-site-requires
-unfolding headOf
-site-requires c κs = omega (arith, c .before .before .before .before .before .pre .high)
-
--- src/perform.rt:20:9
 act-requires : tie.Need-act-requires
-act-requires c κs = rw (c .before .before .head-of .ensures) (c .before .before .before .before .before .before .before .pre)
+act-requires c κs = rw (c .before .head-of .ensures) (c .before .before .before .before .before .before .before .pre)
 
--- src/perform.rt:24:16
-put-site-requires : tie.Need-put-site-requires
+mul-after : tie.Need-mul-after
 unfolding headOf
-put-site-requires c κs = omega (arith, c .before .before .before .before .before .before .before .before .before .before .before .pre .high)
+mul-after c = omega (arith, c .before .before .before .before .before .before .before .before .before .before .before .pre .high)
 
--- src/perform.rt:24:16
-put-rows-requires : tie.Need-put-rows-requires
-put-rows-requires c κs = search needs
+element-set-from-after : tie.Need-element-set-from-after
+unfolding headOf
+element-set-from-after c = omega (arith, c .before .before .before .before .before .before .before .before .before .before .before .pre .high)
 
--- src/perform.rt:13:1
 same-length : tie.Need-same-length
 same-length c = search needs
 
--- src/perform.rt:13:1
 returns : tie.Need-returns
-unfolding headOf worldOf changed
-returns c = simp (c .put-rows .ensures, c .before .put-site .ensures) (acts-played (c .before .before .before .before .before .before .before .before .before .before .before .before .before .args .world .sites) (headOf (c .before .before .before .before .before .before .before .before .before .before .before .before .before .args .world)) (now (c .before .before .before .before .before .before .before .before .before .before .before .before .before .args .store)) (now (c .before .before .before .before .before .before .before .before .before .before .before .before .before .args .list)) (c .before .before .before .before .before .before .before .before .before .before .before .before .before .args .at) (c .before .before .before .before .before .before .before .before .before .before .read-command .result) (c .before .before .before .before .before .before .before .before .before .actor .result) (c .before .before .before .before .before .before .before .site .result) (c .before .before .before .before .before .act .result) (c .before .before .before .before .before .act .last .1 .1 .1 .0) (c .before .before .before .before .before .before .before .before .before .before .read-command .ensures .0) (c .before .before .before .before .before .before .before .before .before .actor .ensures .0) (c .before .before .before .before .before .before .before .site .ensures) (rw (c .before .before .before .before .before .before .before .before .head-of .ensures) at (c .before .before .before .before .before .act .ensures)))
+unfolding headOf worldOf changed withSite withRows
+returns c =
+    let w = c .before .before .before .before .before .before .before .before .before .before .before .args .world in
+    let own = c .before .before .before .before .before .before .before .actor .result in
+    let room : own < length (w .sites) = omega (arith, c .before .before .before .before .before .before .before .before .before .before .before .pre .high, simp length-map at (c .before .before .before .before .before .before .before .before .before .before .before .good .0 .1 .1 .0 .1 .0 .1)) in
+    acts-played (w .sites) (headOf w) (now (c .before .before .before .before .before .before .before .before .before .before .before .args .store)) (now (c .before .before .before .before .before .before .before .before .before .before .before .args .list)) (c .before .before .before .before .before .before .before .before .before .before .before .args .at) (c .before .before .before .before .before .before .before .before .read-command .result) own _ (c .before .before .before .act .result) (c .before .before .before .act .last .1 .1 .1 .0) (c .before .before .before .before .before .before .before .before .read-command .ensures .0) (c .before .before .before .before .before .before .before .actor .ensures .0) (siteOf-within w own _ room) (rw (c .before .before .before .before .before .head-of .ensures) at (c .before .before .before .act .ensures))
 
 pub play-command-spec : {M : Type 1} → statement M
 play-command-spec =
@@ -61,10 +62,11 @@ play-command-spec =
     (tie.spec
     read-command-requires
     actor-requires
+    mul-site
+    element-copy-out-site
     head-of-requires
-    site-requires
     act-requires
-    put-site-requires
-    put-rows-requires
+    mul-after
+    element-set-from-after
     same-length
     returns)

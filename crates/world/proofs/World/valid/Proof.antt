@@ -1,33 +1,27 @@
 use borrow.Author.Needs.{needs}
-use borrow.Author.Tests.{eq-eqb, ne-eqb, le-leb, lt-leb}
 use mathlib.Core.Path.{sym, _∙_}
-use Rattle.world.specs.Valid.{validWorld}
+use borrow.Author.Tests.{eqb-true}
+use Rattle.choice.specs.laws.ChoiceLaws.{both-first}
 use Rattle.world.specs.laws.SizesLaws.{sized}
+use Rattle.world.specs.laws.LimitLaws.{validWorld-by}
 use Rattle.world.proofs.World.valid.Statement.{statement}
 use Rattle.world.proofs.World.valid.Tie as tie
 use Rattle.world.proofs.World.valid.Reads as reads
 use Rattle.world.proofs.World.valid.Lts as lts
 use Rattle.world.proofs.World.valid_sites.Reads as valid-sites-reads
-use Rattle.world.proofs.sizes.sizes_number.Reads as sizes-number-reads
+use Rattle.world.proofs.valid.valid_head.Reads as valid-head-reads
 
-sizes-number-requires : tie.Need-sizes-number-requires
-sizes-number-requires c κs = search needs
-
-returns : tie.Need-returns
-unfolding validWorld
-returns c = simp (← (c .before .sizes-number .ensures), ne-eqb _ _ (c .if1 .taken))
-
-returns-2 : tie.Need-returns-2
-unfolding validWorld
-returns-2 c = simp (← (c .before .before .before .sizes-number .ensures), eq-eqb _ _ (c .before .before .if1 .left), lt-leb _ _ (c .if2 .taken))
+valid-head-requires : tie.Need-valid-head-requires
+valid-head-requires c κs = search needs
 
 valid-sites-requires : tie.Need-valid-sites-requires
-valid-sites-requires c κs = sized _ _ _ _ (sym (c .before .before .before .sizes-number .ensures) ∙ c .before .before .if1 .left) .high
+valid-sites-requires c κs = sized _ _ _ _ (eqb-true _ 0 (both-first _ _ (sym (c .before .valid-head .ensures) ∙ c .if1 .taken))) .high
 
-returns-3 : tie.Need-returns-3
-unfolding validWorld
-returns-3 c = simp (← (c .before .before .before .before .sizes-number .ensures), eq-eqb _ _ (c .before .before .before .if1 .left), le-leb _ _ (c .before .if2 .left), ← (c .valid-sites .ensures))
+returns : tie.Need-returns
+returns c = simp (validWorld-by (c .before .before .before .before .before .args .self), ← (c .before .before .valid-head .ensures), c .before .if1 .taken) (c .valid-sites .ensures)
+
+returns-2 : tie.Need-returns-2
+returns-2 c = simp (validWorld-by (c .before .before .before .before .args .self), ← (c .before .valid-head .ensures), c .if1 .left)
 
 pub valid-spec : {M : Type 1} → statement M
-valid-spec =
-    tie.close (tie.spec sizes-number-requires returns returns-2 valid-sites-requires returns-3)
+valid-spec = tie.close (tie.spec valid-head-requires valid-sites-requires returns returns-2)

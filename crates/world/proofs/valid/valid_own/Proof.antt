@@ -3,19 +3,19 @@ use Rattle.world.proofs.valid.valid_own.Statement.{statement}
 use Rattle.world.proofs.valid.valid_own.Tie as tie
 use Rattle.world.proofs.valid.valid_own.Reads as reads
 use Rattle.world.proofs.valid.valid_own.Lts as lts
-use Rattle.vector.proofs.valid_vector.Reads as valid-vector-reads
+use Rattle.vector.proofs.valid_within.Reads as valid-within-reads
 
 array-read-entry : tie.Need-array-read-entry
 array-read-entry c = search needs
 
-valid-vector-requires : tie.Need-valid-vector-requires
-valid-vector-requires c κs = search needs
+valid-within-requires : tie.Need-valid-within-requires
+valid-within-requires c κs = search needs
 
 returns : tie.Need-returns
-returns c = simp (← (c .before .valid-vector .ensures), c .if1 .taken)
+returns c = simp (← (c .before .valid-within .ensures), c .if1 .taken)
 
 returns-2 : tie.Need-returns-2
-returns-2 c = simp (← (c .before .valid-vector .ensures), c .if1 .left)
+returns-2 c = simp (← (c .before .valid-within .ensures), c .if1 .left)
 
 pub valid-own-spec : {M : Type 1} → statement M
-valid-own-spec = tie.close (tie.spec array-read-entry valid-vector-requires returns returns-2)
+valid-own-spec = tie.close (tie.spec array-read-entry valid-within-requires returns returns-2)

@@ -1,5 +1,5 @@
+use Rattle.world.specs.laws.LimitLaws.{validSite-by}
 use borrow.Author.Needs.{needs}
-use Rattle.world.specs.laws.PartLaws.{validSite-by}
 use Rattle.world.proofs.valid.valid_site.Statement.{statement}
 use Rattle.world.proofs.valid.valid_site.Tie as tie
 use Rattle.world.proofs.valid.valid_site.Reads as reads
@@ -22,10 +22,10 @@ valid-group-requires : tie.Need-valid-group-requires
 valid-group-requires c κs = search needs
 
 returns : tie.Need-returns
-returns c = simp (validSite-by (c .before .before .before .before .before .before .before .args .own) (c .before .before .before .before .before .before .before .args .n) (c .before .before .before .before .before .before .before .args .site) _ _ _ (c .before .before .before .before .state .ensures) (c .before .before .before .code-of .ensures) (c .before .before .valid-own .ensures), c .before .if1 .taken, ← (c .valid-group .ensures))
+returns c n l = simp (validSite-by (c .before .before .before .before .before .before .before .args .own) (c .before .before .before .before .before .before .before .args .site) _ _ _ _ (c .before .before .before .before .state .ensures) (c .before .before .before .code-of .ensures) (c .before .before .valid-own .ensures) n l, c .before .if1 .taken) (c .valid-group .ensures n l)
 
 returns-2 : tie.Need-returns-2
-returns-2 c = simp (validSite-by (c .before .before .before .before .before .before .args .own) (c .before .before .before .before .before .before .args .n) (c .before .before .before .before .before .before .args .site) _ _ _ (c .before .before .before .state .ensures) (c .before .before .code-of .ensures) (c .before .valid-own .ensures), c .if1 .left)
+returns-2 c n l = simp (validSite-by (c .before .before .before .before .before .before .args .own) (c .before .before .before .before .before .before .args .site) _ _ _ _ (c .before .before .before .state .ensures) (c .before .before .code-of .ensures) (c .before .valid-own .ensures) n l, c .if1 .left)
 
 pub valid-site-spec : {M : Type 1} → statement M
 valid-site-spec =

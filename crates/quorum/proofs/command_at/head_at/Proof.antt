@@ -1,0 +1,43 @@
+use Rattle.play.specs.laws.Changes.{headOf}
+use Rattle.layout.specs.Layout.{worldAt}
+use borrow.Author.Needs.{needs}
+use Rattle.quorum.proofs.command_at.head_at.Statement.{statement}
+use Rattle.quorum.proofs.command_at.head_at.Tie as tie
+use Rattle.quorum.proofs.command_at.head_at.Reads as reads
+use Rattle.quorum.proofs.command_at.head_at.Lts as lts
+use Rattle.decode.proofs.word_at.Reads as word-at-reads
+use Rattle.word.proofs.wide.Reads as wide-reads
+
+shared-slice-read-wide : tie.Need-shared-slice-read-wide
+shared-slice-read-wide c = search needs
+
+wide-requires : tie.Need-wide-requires
+wide-requires c κs = search needs
+
+word-at-requires : tie.Need-word-at-requires
+word-at-requires c κs = search needs
+
+word-at-requires-2 : tie.Need-word-at-requires-2
+word-at-requires-2 c κs = search needs
+
+word-at-requires-3 : tie.Need-word-at-requires-3
+word-at-requires-3 c κs = search needs
+
+word-at-requires-4 : tie.Need-word-at-requires-4
+word-at-requires-4 c κs = search needs
+
+returns : tie.Need-returns
+unfolding headOf worldAt
+returns c = rw (c .before .before .before .before .wide .ensures .0, c .before .before .before .word-at .ensures, c .before .before .word-at2 .ensures, c .before .word-at3 .ensures, c .word-at4 .ensures)
+
+pub head-at-spec : {M : Type 1} → statement M
+head-at-spec =
+    tie.close
+    (tie.spec
+    shared-slice-read-wide
+    wide-requires
+    word-at-requires
+    word-at-requires-2
+    word-at-requires-3
+    word-at-requires-4
+    returns)
