@@ -36,7 +36,7 @@ sites-through b k n at s before r small p q e f g =
 by-parts :
     (b : List ℕ) →
     validWorld (worldAt b)
-    ≡ both (both (eqb (sizesNumber (getD b 1 0) (wordAt b 2) (wordAt b 4) (wordAt b 6)) 0) (leb (wordAt b 8) maxRows))
+    ≡ both (both (eqb (sizesNumber (getD b 1 0) (record { 0 = wordAt b 2 }) (record { 0 = wordAt b 4 }) (wordAt b 6)) 0) (leb (wordAt b 8) maxRows))
     (validSites (getD b 1 0) (worldAt b))
 unfolding worldAt
 by-parts b = validWorld-by (worldAt b)
@@ -44,16 +44,16 @@ by-parts b = validWorld-by (worldAt b)
 -- sizes and row count, then the sites
 pub head-first :
     (b : List ℕ) (n c a willing rows : ℕ) (head : Bool) → n ≡ getD b 1 0 → c ≡ wordAt b 2 → a ≡ wordAt b 4 →
-    willing ≡ wordAt b 6 → rows ≡ wordAt b 8 → head ≡ both (eqb (sizesNumber n c a willing) 0) (leb rows maxRows) →
+    willing ≡ wordAt b 6 → rows ≡ wordAt b 8 → head ≡ both (eqb (sizesNumber n (record { 0 = c }) (record { 0 = a }) willing) 0) (leb rows maxRows) →
     validWorld (worldAt b) ≡ both head (validSites n (worldAt b))
 head-first b n c a willing rows head d e f g h i = rw (i, d, e, f, g, h) (by-parts b)
 
 -- a head that passes has at most sixteen sites
 pub head-sites :
-    (n c a willing rows : ℕ) (head : Bool) → head ≡ both (eqb (sizesNumber n c a willing) 0) (leb rows maxRows) → head ≡ true →
+    (n c a willing rows : ℕ) (head : Bool) → head ≡ both (eqb (sizesNumber n (record { 0 = c }) (record { 0 = a }) willing) 0) (leb rows maxRows) → head ≡ true →
     n ≤ 16
 head-sites n c a willing rows head e passes =
-    sized n c a willing
-    (eqb-true (sizesNumber n c a willing) 0
-    (both-first (eqb (sizesNumber n c a willing) 0) (leb rows maxRows) (sym e ∙ passes)))
+    sized n (record { 0 = c }) (record { 0 = a }) willing
+    (eqb-true (sizesNumber n (record { 0 = c }) (record { 0 = a }) willing) 0
+    (both-first (eqb (sizesNumber n (record { 0 = c }) (record { 0 = a }) willing) 0) (leb rows maxRows) (sym e ∙ passes)))
     .high
