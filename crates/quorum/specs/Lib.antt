@@ -1,3 +1,3 @@
 pub mod Calls
-pub mod Crossing
+pub mod Claims
 pub mod laws

@@ -31,7 +31,7 @@ use Rattle.layout.specs.Claims.{Fits}
 use Rattle.layout.specs.laws.LayoutLaws.{world-read-back, written-inside, inside-exact, read-sites, read-codes, read-joined}
 use Rattle.quorum.specs.Calls.{resultBytes, leave, leavePlay}
 use Rattle.quorum.specs.laws.CallLaws.{list-plays, command-16, command-17-result, command-17-world, command-refused, command-accepted}
-use Rattle.quorum.specs.Crossing.{Holds, ListCrosses, CommandCrosses, Small, ResultFits}
+use Rattle.quorum.specs.Claims.{Holds, ListCrosses, CommandCrosses, Small, ResultFits}
 
 -- a world that passes 17 has numbers that fit their fields
 valid-fits : (w : World) → Shaped w → validWorld w ≡ true → Fits w

@@ -6,7 +6,7 @@ use Rattle.list_cases.proofs.lists.fill.Statement.{statement}
 use Rattle.list_cases.proofs.lists.fill.Tie as tie
 use Rattle.list_cases.proofs.lists.fill.Reads as reads
 use Rattle.list_cases.proofs.lists.fill.Lts as lts
-use Rattle.case_line.proofs.set.Reads as set-reads
+use Rattle.case_line.proofs.put.Reads as put-reads
 
 abbrev Inv-loop : tie.InvT-loop
 Inv-loop list₀ at₀ list at = (at ≤ 32769) × (length list ≡ length list₀)
@@ -19,16 +19,16 @@ loop-holds : tie.Need-loop-holds Inv-loop μ-loop
 loop-holds c = search needs
 
 -- src/lists.rt:23:9
-set-requires : tie.Need-set-requires Inv-loop μ-loop
-set-requires c κs = search needs
+put-requires : tie.Need-put-requires Inv-loop μ-loop
+put-requires c κs = search needs
 
 -- src/lists.rt:24:19
-add-set : tie.Need-add-set Inv-loop μ-loop
-add-set c = search needs
+add-put : tie.Need-add-put Inv-loop μ-loop
+add-put c = search needs
 
 -- src/lists.rt:24:9
-set-requires-2 : tie.Need-set-requires-2 Inv-loop μ-loop
-set-requires-2 c κs = search needs
+put-requires-2 : tie.Need-put-requires-2 Inv-loop μ-loop
+put-requires-2 c κs = search needs
 
 -- src/lists.rt:25:9
 add-at : tie.Need-add-at Inv-loop μ-loop
@@ -43,8 +43,8 @@ loop-again : tie.Need-loop-again Inv-loop μ-loop
 loop-again c = search needs
 
 -- src/lists.rt:27:5
-set-requires-3 : tie.Need-set-requires-3 Inv-loop μ-loop
-set-requires-3 c κs = search needs
+put-requires-3 : tie.Need-put-requires-3 Inv-loop μ-loop
+put-requires-3 c κs = search needs
 
 -- src/lists.rt:20:1
 same-length : tie.Need-same-length Inv-loop μ-loop
@@ -61,12 +61,12 @@ fill-spec =
     Inv-loop
     μ-loop
     loop-holds
-    set-requires
-    add-set
-    set-requires-2
+    put-requires
+    add-put
+    put-requires-2
     add-at
     loop-less
     loop-again
-    set-requires-3
+    put-requires-3
     same-length
     returns)
