@@ -1,1 +1,2 @@
+pub mod TargetLaws
 pub mod CommandLaws

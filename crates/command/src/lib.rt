@@ -10,9 +10,10 @@ pub use view::command_in;
 pub use view::look_at;
 pub use view::read_command;
 
+// The site stands first in both, so that it is found in the same place.
 pub struct Delivery {
-    pub row: usize,
     pub site: usize,
+    pub row: usize,
 }
 
 pub struct Target {

@@ -2,8 +2,8 @@
 ghost use mathlib.Core.Path.{_≡_};
 ghost use Prim.Native.Nat.{_+_, _<_, _≤_};
 ghost use lib.ListN.{length, getD};
-ghost use Rattle.command.specs.declared.Command.the-variants as Command·;
 ghost use Rattle.command.specs.Commands.{found as foundAt, refused as refusedAt, target, delivery, readTarget, readDelivery, readByte, readCommand, refusalOf};
+ghost use Rattle.command.specs.laws.TargetLaws.{targetCommand};
 use crate::Command;
 use crate::Delivery;
 use crate::Parsed;
@@ -65,34 +65,27 @@ fn read_delivery(list: &[u8], at: usize) -> Reading
     found(Command::Deliver(delivery_at(list, at)), at + 4)
 }
 
-fn read_timeout(list: &[u8], at: usize) -> Reading
-    requires { ⌜ at < length (now list) ⌝ }
-    ensures { λ r. ⌜ r ≡ readTarget Command·.Timeout (now (list .entry)) at ⌝ }
+// The command of a byte of 3 to 5, on its site.
+fn target_command(byte: u8, target: Target) -> Command
+    ensures { λ r. ⌜ r ≡ targetCommand byte target ⌝ }
 {
-    if list.len() - at < 2 {
-        return refused(7, at);
+    if byte == 3 {
+        return Command::Timeout(target);
     }
-    found(Command::Timeout(target_at(list, at)), at + 2)
+    if byte == 4 {
+        return Command::Crash(target);
+    }
+    Command::Recover(target)
 }
 
-fn read_crash(list: &[u8], at: usize) -> Reading
+fn read_target(byte: u8, list: &[u8], at: usize) -> Reading
     requires { ⌜ at < length (now list) ⌝ }
-    ensures { λ r. ⌜ r ≡ readTarget Command·.Crash (now (list .entry)) at ⌝ }
+    ensures { λ r. ⌜ r ≡ readTarget (targetCommand byte) (now (list .entry)) at ⌝ }
 {
     if list.len() - at < 2 {
         return refused(7, at);
     }
-    found(Command::Crash(target_at(list, at)), at + 2)
-}
-
-fn read_recover(list: &[u8], at: usize) -> Reading
-    requires { ⌜ at < length (now list) ⌝ }
-    ensures { λ r. ⌜ r ≡ readTarget Command·.Recover (now (list .entry)) at ⌝ }
-{
-    if list.len() - at < 2 {
-        return refused(7, at);
-    }
-    found(Command::Recover(target_at(list, at)), at + 2)
+    found(target_command(byte, target_at(list, at)), at + 2)
 }
 
 // By the command byte's value.
@@ -106,16 +99,13 @@ fn read_byte(byte: u8, list: &[u8], at: usize) -> Reading
     if byte == 2 {
         return read_delivery(list, at);
     }
-    if byte == 3 {
-        return read_timeout(list, at);
+    if byte < 1 {
+        return refused(6, at);
     }
-    if byte == 4 {
-        return read_crash(list, at);
+    if 5 < byte {
+        return refused(6, at);
     }
-    if byte == 5 {
-        return read_recover(list, at);
-    }
-    refused(6, at)
+    read_target(byte, list, at)
 }
 
 // The command at a place of a list.

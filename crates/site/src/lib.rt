@@ -32,14 +32,14 @@ pub struct CommitQuorum(pub usize);
 
 pub struct AbortQuorum(pub usize);
 
-// One machine: up or down, its role, the log's three places (the group record keeps the vector after joining), and what it knows of
-// each site.
+// One machine: what it knows of each site; the vector of its group record; up or down, its role, and the log's three places. The
+// vectors come first, so that a site is copied in whole words.
 pub struct Site {
+    pub codes: [u8; 16],
+    pub joined: [u8; 16],
     pub up: bool,
     pub coordinator: bool,
     pub prepared: bool,
     pub group: Group,
-    pub joined: [u8; 16],
     pub outcome: Outcome,
-    pub codes: [u8; 16],
 }

@@ -14,6 +14,7 @@ use Rattle.command.specs.declared.Command.the-variants as Command·
 use Rattle.command.specs.declared.Target.{Target}
 use Rattle.command.specs.declared.Refusal.{Refusal}
 use Rattle.command.specs.declared.Reading.{Reading}
+use Rattle.command.specs.laws.TargetLaws.{past}
 use Rattle.command.specs.Commands.{found, refused, readTarget, readDelivery, readByte, readCommand, refusalOf, operandBytes, refusalAt}
 
 -- what is left to ask once there is a command byte
@@ -45,9 +46,6 @@ of-delivery :
     ≡ pick (leb (at + 4) (length list)) (record { number = 0; place = at + 4 }) (record { number = 7; place = at })
 unfolding readDelivery found refused refusalOf
 of-delivery list at = by-test (leb (at + 4) (length list)) (λ e. rw e) (λ e. rw e)
-
-past : (k byte : ℕ) → (byte ≡ k → ⊥) → k ≤ byte → 1 + k ≤ byte
-past k byte other h = omega arith
 
 never : {byte : ℕ} → 6 ≤ byte → byte ≤ 5 → ⊥
 never low high = omega arith

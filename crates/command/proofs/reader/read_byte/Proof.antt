@@ -1,61 +1,63 @@
-use borrow.Author.Needs.{needs}
+use native.Mathlib.Omega.{arith}
+use mathlib.Core.Path.{_∙_}
 use Rattle.choice.specs.laws.ChoiceLaws.{tests}
 use Rattle.command.specs.Commands.{readByte}
+use Rattle.command.specs.laws.TargetLaws.{target-byte, no-command}
+use borrow.Author.Needs.{needs}
 use Rattle.command.proofs.reader.read_byte.Statement.{statement}
 use Rattle.command.proofs.reader.read_byte.Tie as tie
 use Rattle.command.proofs.reader.read_byte.Reads as reads
 use Rattle.command.proofs.reader.read_byte.Lts as lts
 use Rattle.command.proofs.reader.found.Reads as found-reads
-use Rattle.command.proofs.reader.read_crash.Reads as read-crash-reads
 use Rattle.command.proofs.reader.read_delivery.Reads as read-delivery-reads
-use Rattle.command.proofs.reader.read_recover.Reads as read-recover-reads
-use Rattle.command.proofs.reader.read_timeout.Reads as read-timeout-reads
+use Rattle.command.proofs.reader.read_target.Reads as read-target-reads
 use Rattle.command.proofs.reader.refused.Reads as refused-reads
 
+-- src/reader.rt:97:38
 add-found : tie.Need-add-found
 add-found c = search needs
 
+-- src/reader.rt:97:9
 found-requires : tie.Need-found-requires
 found-requires c κs = search needs
 
+-- src/reader.rt:97:9
 returns : tie.Need-returns
 unfolding readByte
 returns c = search (tests, needs)
 
+-- src/reader.rt:100:9
 read-delivery-requires : tie.Need-read-delivery-requires
 read-delivery-requires c κs = search needs
 
+-- src/reader.rt:100:9
 returns-2 : tie.Need-returns-2
 unfolding readByte
 returns-2 c = search (tests, needs)
 
-read-timeout-requires : tie.Need-read-timeout-requires
-read-timeout-requires c κs = search needs
-
-returns-3 : tie.Need-returns-3
-unfolding readByte
-returns-3 c = search (tests, needs)
-
-read-crash-requires : tie.Need-read-crash-requires
-read-crash-requires c κs = search needs
-
-returns-4 : tie.Need-returns-4
-unfolding readByte
-returns-4 c = search (tests, needs)
-
-read-recover-requires : tie.Need-read-recover-requires
-read-recover-requires c κs = search needs
-
-returns-5 : tie.Need-returns-5
-unfolding readByte
-returns-5 c = search (tests, needs)
-
+-- src/reader.rt:103:9
 refused-requires : tie.Need-refused-requires
 refused-requires c κs = search needs
 
-returns-6 : tie.Need-returns-6
-unfolding readByte
-returns-6 c = search (tests, needs)
+-- src/reader.rt:103:9
+returns-3 : tie.Need-returns-3
+returns-3 c = c .refused .ensures ∙ no-command _ _ _ (λ k low high e. omega (arith, c .before .if3 .taken))
+
+-- src/reader.rt:106:9
+refused-requires-2 : tie.Need-refused-requires-2
+refused-requires-2 c κs = search needs
+
+-- src/reader.rt:106:9
+returns-4 : tie.Need-returns-4
+returns-4 c = c .refused2 .ensures ∙ no-command _ _ _ (λ k low high e. omega (arith, c .before .if4 .taken))
+
+-- src/reader.rt:108:5
+read-target-requires : tie.Need-read-target-requires
+read-target-requires c κs = search needs
+
+-- src/reader.rt:92:1
+returns-5 : tie.Need-returns-5
+returns-5 c = c .read-target .ensures ∙ target-byte _ _ _ (c .before .before .before .before .if1 .left) (c .before .before .before .if2 .left) (c .before .before .if3 .left) (c .before .if4 .left)
 
 pub read-byte-spec : {M : Type 1} → statement M
 read-byte-spec =
@@ -66,11 +68,9 @@ read-byte-spec =
     returns
     read-delivery-requires
     returns-2
-    read-timeout-requires
-    returns-3
-    read-crash-requires
-    returns-4
-    read-recover-requires
-    returns-5
     refused-requires
-    returns-6)
+    returns-3
+    refused-requires-2
+    returns-4
+    read-target-requires
+    returns-5)
