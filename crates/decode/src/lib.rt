@@ -1,9 +1,7 @@
-// A world read from bytes, and what is asked of the bytes: that they are inside the layout, and 17.
-mod inside;
+// A world read from bytes, whole or a site at a time, and 17 asked of it where it lies.
 mod read;
 mod valid;
 
-pub use inside::in_layout;
 pub use read::site_at;
 pub use read::word_at;
 pub use read::world_at;

@@ -72,7 +72,7 @@ pub extern "C" fn qc_play_command(
     if result.len() != RESULT_BYTES {
         return 17;
     }
-    if !decode::in_layout(world) {
+    if !inside::in_layout(world) {
         return 17;
     }
     if !decode::valid_at(world) {
@@ -98,7 +98,7 @@ pub extern "C" fn qc_report(
     if result.len() != RESULT_BYTES {
         return 17;
     }
-    if !decode::in_layout(world) {
+    if !inside::in_layout(world) {
         return 17;
     }
     if report::LAST_NUMBER < number as usize {

@@ -9,7 +9,7 @@ use Rattle.quorum.proofs.qc_play_command.Statement.{statement}
 use Rattle.quorum.proofs.qc_play_command.Tie as tie
 use Rattle.quorum.proofs.qc_play_command.Reads as reads
 use Rattle.quorum.proofs.qc_play_command.Lts as lts
-use Rattle.decode.proofs.in_layout.Reads as in-layout-reads
+use Rattle.inside.proofs.in_layout.Reads as in-layout-reads
 use Rattle.decode.proofs.valid_at.Reads as valid-at-reads
 use Rattle.quorum.proofs.command_at.play_at.Reads as play-at-reads
 

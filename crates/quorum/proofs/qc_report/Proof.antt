@@ -9,7 +9,7 @@ use Rattle.quorum.proofs.qc_report.Tie as tie
 use Rattle.quorum.proofs.qc_report.Reads as reads
 use Rattle.quorum.proofs.qc_report.Lts as lts
 use Rattle.quorum.proofs.number_of.Reads as number-of-reads
-use Rattle.decode.proofs.in_layout.Reads as in-layout-reads
+use Rattle.inside.proofs.in_layout.Reads as in-layout-reads
 use Rattle.decode.proofs.world_at.Reads as world-at-reads
 use Rattle.encode.proofs.put_number.Reads as put-number-reads
 use Rattle.report.proofs.write_report.Reads as write-report-reads

@@ -4,11 +4,11 @@ use native.Mathlib.Numerals.{add-one}
 use Prim.Native.Nat.{ℕ, _≤_, _-_}
 use mathlib.Core.Path.{_≡_}
 use Rattle.layout.specs.Layout.{atMost}
-use Rattle.decode.proofs.inside.at_most.Statement.{statement}
-use Rattle.decode.proofs.inside.at_most.Tie as tie
-use Rattle.decode.proofs.inside.at_most.Reads as reads
-use Rattle.decode.proofs.inside.at_most.Lts as lts
-use Rattle.decode.proofs.inside.most_through.Reads as most-through-reads
+use Rattle.inside.proofs.at_most.Statement.{statement}
+use Rattle.inside.proofs.at_most.Tie as tie
+use Rattle.inside.proofs.at_most.Reads as reads
+use Rattle.inside.proofs.at_most.Lts as lts
+use Rattle.inside.proofs.most_through.Reads as most-through-reads
 
 abbrev Inv-loop : tie.InvT-loop
 Inv-loop bytes at count limit holds₀ k₀ holds k = (k ≤ count) × (holds ≡ atMost k bytes at limit)

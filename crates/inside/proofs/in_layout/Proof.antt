@@ -2,12 +2,12 @@ use native.Mathlib.Omega.{arith}
 use borrow.Author.Tests.{eq-eqb, ne-eqb, not-true, not-false}
 use Rattle.layout.specs.Layout.{inLayout}
 use borrow.Author.Needs.{needs}
-use Rattle.decode.proofs.inside.in_layout.Statement.{statement}
-use Rattle.decode.proofs.inside.in_layout.Tie as tie
-use Rattle.decode.proofs.inside.in_layout.Reads as reads
-use Rattle.decode.proofs.inside.in_layout.Lts as lts
-use Rattle.decode.proofs.inside.at_most.Reads as at-most-reads
-use Rattle.decode.proofs.inside.sites_in_layout.Reads as sites-in-layout-reads
+use Rattle.inside.proofs.in_layout.Statement.{statement}
+use Rattle.inside.proofs.in_layout.Tie as tie
+use Rattle.inside.proofs.in_layout.Reads as reads
+use Rattle.inside.proofs.in_layout.Lts as lts
+use Rattle.inside.proofs.at_most.Reads as at-most-reads
+use Rattle.inside.proofs.sites_in_layout.Reads as sites-in-layout-reads
 
 returns : tie.Need-returns
 unfolding inLayout

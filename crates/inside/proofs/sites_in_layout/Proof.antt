@@ -4,11 +4,11 @@ use native.Mathlib.Numerals.{add-one}
 use Prim.Native.Nat.{ℕ, _≤_, _-_}
 use mathlib.Core.Path.{_≡_}
 use Rattle.layout.specs.Layout.{sitesInLayout}
-use Rattle.decode.proofs.inside.sites_in_layout.Statement.{statement}
-use Rattle.decode.proofs.inside.sites_in_layout.Tie as tie
-use Rattle.decode.proofs.inside.sites_in_layout.Reads as reads
-use Rattle.decode.proofs.inside.sites_in_layout.Lts as lts
-use Rattle.decode.proofs.inside.site_through.Reads as site-through-reads
+use Rattle.inside.proofs.sites_in_layout.Statement.{statement}
+use Rattle.inside.proofs.sites_in_layout.Tie as tie
+use Rattle.inside.proofs.sites_in_layout.Reads as reads
+use Rattle.inside.proofs.sites_in_layout.Lts as lts
+use Rattle.inside.proofs.site_through.Reads as site-through-reads
 
 abbrev Inv-loop : tie.InvT-loop
 Inv-loop bytes holds₀ k₀ holds k = (k ≤ 16) × (holds ≡ sitesInLayout k bytes)

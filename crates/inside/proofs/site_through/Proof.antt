@@ -1,9 +1,9 @@
 use borrow.Author.Needs.{needs}
-use Rattle.decode.proofs.inside.site_through.Statement.{statement}
-use Rattle.decode.proofs.inside.site_through.Tie as tie
-use Rattle.decode.proofs.inside.site_through.Reads as reads
-use Rattle.decode.proofs.inside.site_through.Lts as lts
-use Rattle.decode.proofs.inside.site_in_layout.Reads as site-in-layout-reads
+use Rattle.inside.proofs.site_through.Statement.{statement}
+use Rattle.inside.proofs.site_through.Tie as tie
+use Rattle.inside.proofs.site_through.Reads as reads
+use Rattle.inside.proofs.site_through.Lts as lts
+use Rattle.inside.proofs.site_in_layout.Reads as site-in-layout-reads
 use Rattle.layout.proofs.site_place.Reads as site-place-reads
 
 site-place-requires : tie.Need-site-place-requires

@@ -1,9 +1,9 @@
 use Rattle.choice.specs.laws.ChoiceLaws.{tests}
 use borrow.Author.Needs.{needs}
-use Rattle.decode.proofs.inside.most_through.Statement.{statement}
-use Rattle.decode.proofs.inside.most_through.Tie as tie
-use Rattle.decode.proofs.inside.most_through.Reads as reads
-use Rattle.decode.proofs.inside.most_through.Lts as lts
+use Rattle.inside.proofs.most_through.Statement.{statement}
+use Rattle.inside.proofs.most_through.Tie as tie
+use Rattle.inside.proofs.most_through.Reads as reads
+use Rattle.inside.proofs.most_through.Lts as lts
 
 returns : tie.Need-returns
 returns c = search (tests, needs)

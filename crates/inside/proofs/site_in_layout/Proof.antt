@@ -1,11 +1,11 @@
 use borrow.Author.Tests.{not-true, not-false}
 use Rattle.layout.specs.Layout.{siteInLayout}
 use borrow.Author.Needs.{needs}
-use Rattle.decode.proofs.inside.site_in_layout.Statement.{statement}
-use Rattle.decode.proofs.inside.site_in_layout.Tie as tie
-use Rattle.decode.proofs.inside.site_in_layout.Reads as reads
-use Rattle.decode.proofs.inside.site_in_layout.Lts as lts
-use Rattle.decode.proofs.inside.at_most.Reads as at-most-reads
+use Rattle.inside.proofs.site_in_layout.Statement.{statement}
+use Rattle.inside.proofs.site_in_layout.Tie as tie
+use Rattle.inside.proofs.site_in_layout.Reads as reads
+use Rattle.inside.proofs.site_in_layout.Lts as lts
+use Rattle.inside.proofs.at_most.Reads as at-most-reads
 
 at-most-requires : tie.Need-at-most-requires
 at-most-requires c κs = search needs
