@@ -21,8 +21,8 @@ use Rattle.play.specs.laws.CallLaws.{ready, acts-played}
 use Rattle.layout.specs.Numbers.{putNumber}
 use Rattle.layout.specs.Layout.{worldBytes, sitePlace, siteAt, putWorld, worldAt, inLayout}
 use Rattle.layout.specs.laws.LayoutLaws.{site-of}
-use Rattle.quorum.specs.Calls.{resultBytes, leave, leaveCommand, commandCall}
-use Rattle.quorum.specs.laws.CallLaws.{command-plays, command-refused, command-accepted}
+use Rattle.calls.specs.Calls.{resultBytes, leave, leaveCommand, commandCall}
+use Rattle.calls.specs.laws.CallLaws.{command-plays, command-refused, command-accepted}
 
 -- what 16 and 17 have asked of the buffers; a byte is below 256
 pub record Playable (world store result : List ℕ) : Type 0 where
