@@ -1,18 +1,17 @@
 // One command: the refusals in the table's order, then the rule; the site put back and its row added.
 mod acts;
-mod apart;
 mod commands;
 mod enter;
 mod perform;
+mod told;
 
 pub use acts::act;
 pub use acts::actor;
-pub use apart::head_of;
-pub use apart::world_of;
 pub use perform::one_command;
 use site::AbortQuorum;
 use site::CommitQuorum;
 use site::Site;
+pub use told::head_of;
 use world::World;
 
 // A call's answer beside the store: number (0: accepted), world, and the place after the operands, or that of the refused command.

@@ -6,7 +6,7 @@ ghost use Rattle.play.specs.Commands.{playCommand, oneCommand};
 use crate::Played;
 use crate::acts::act;
 use crate::acts::actor;
-use crate::apart::head_of;
+use crate::told::head_of;
 use world::World;
 
 // The command at a place of the list, in a world that 17 need not be asked of.

@@ -9,7 +9,7 @@ use Rattle.world.specs.Sizes.{listBytes}
 use Rattle.play.specs.Commands.{oneCommand}
 use Rattle.list.specs.Play.{playList}
 use Rattle.layout.specs.Layout.{worldBytes, worldAt, inLayout}
-use Rattle.quorum.specs.Calls.{resultBytes, listCall, commandCall}
+use Rattle.calls.specs.Calls.{resultBytes, listCall, commandCall}
 
 -- the bytes are inside the layout and hold the world
 pub record Holds (bytes : List ℕ) (w : World) : Type 0 where

@@ -1,29 +1,10 @@
 // The calls offered to C, on byte slices and numbers. docs/LAYOUT.md has the bytes; include/quorum.h says how to call.
-mod command_at;
-
 ghost use mathlib.Core.Path.{_≡_};
-ghost use Rattle.quorum.specs.Calls.{unfitNumber, listCall, commandCall, reportCall};
-use command_at::play_at;
+ghost use Rattle.calls.specs.Calls.{listCall, commandCall, reportCall};
+use calls::RESULT_BYTES;
+use calls::number_of;
+use calls::unfit_number;
 use world::World;
-
-// The length of every result buffer.
-const RESULT_BYTES: usize = 8;
-
-pub fn number_of(number: u8) -> u32
-    ensures { λ r. ⌜ r ≡ number ⌝ }
-{
-    number as u32
-}
-
-// For a store of so many bytes, where another buffer has not the length of the layout: 16, then 17.
-fn unfit_number(bytes: usize) -> u32
-    ensures { λ r. ⌜ r ≡ unfitNumber bytes ⌝ }
-{
-    if bytes < World::STORE_BYTES {
-        return 16;
-    }
-    17
-}
 
 // A whole list.
 #[no_mangle]
@@ -78,7 +59,7 @@ pub extern "C" fn qc_play_command(
     if !decode::valid_at(world) {
         return 17;
     }
-    play_at(world, store, list, at, result)
+    calls::play_at(world, store, list, at, result)
 }
 
 // The report.

@@ -4,12 +4,12 @@ use mathlib.Core.Bool.{true}
 use mathlib.Core.List.{List}
 use mathlib.Core.Path.{_≡_, ap}
 use lib.ListN.{length}
-use borrow.Author.Tests.{le-ltb}
 use Rattle.choice.specs.laws.Cases.{by-equal}
 use Rattle.world.specs.declared.World.{World}
 use Rattle.world.specs.Sizes.{storeBytes}
 use Rattle.world.specs.Valid.{validWorld}
 use Rattle.play.specs.Commands.{playCommand, oneCommand}
+use Rattle.play.specs.laws.CallLaws.{one-is-play}
 use Rattle.safety.specs.Claims.{Shaped, Unchanged}
 use Rattle.safety.specs.laws.Unchanging.{refused-changes-nothing, accepted-keeps-the-rest}
 use Rattle.safety.specs.laws.Shape.{shaped-kept}
@@ -25,13 +25,6 @@ place-after w store list at e =
 
 pub number-below : (w : World) (store list : List ℕ) (at : ℕ) → playCommand w store list at .number ≤ 15
 number-below w store list at = placed w store list at .small
-
--- neither 16 nor 17
-pub one-is-play :
-    (w : World) (store list : List ℕ) (at : ℕ) → storeBytes ≤ length store → validWorld w ≡ true →
-    oneCommand w store list at ≡ playCommand w store list at
-unfolding oneCommand
-one-is-play w store list at room valid = rw (le-ltb (length store) storeBytes room, valid)
 
 -- a refused command leaves world and store
 pub refused-same :

@@ -16,12 +16,13 @@ use Rattle.world.specs.Valid.{validWorld}
 use Rattle.play.specs.Calls.{Call}
 use Rattle.play.specs.Commands.{oneCommand}
 use Rattle.play.specs.Run.{Ask, run, callOf, afterCall}
+use Rattle.play.specs.laws.CallLaws.{one-is-play}
 use Rattle.safety.specs.Claims.{Shaped}
 use Rattle.safety.specs.laws.Unchanging.{refused-changes-nothing}
 use Rattle.safety.specs.laws.Demand3.{demand3}
 use Rattle.list.specs.Play.{Play, headerOf, headerNumber, headerWorld, stopped, afterAsk, askAt, playFrom, refusedList, playList}
 use Rattle.list.specs.Claims.{OfList, ListIsRun, ListSafe, Ends, ListEnds}
-use Rattle.list.specs.laws.CommandLaws.{one-is-play, number-below}
+use Rattle.list.specs.laws.CommandLaws.{number-below}
 use Rattle.list.specs.laws.PlayLaws.{play-ind, Further, further-one}
 use Rattle.list.specs.laws.HeaderLaws.{headed, header-valid, header-shaped, header-small, whole-from}
 

@@ -13,9 +13,10 @@ use Rattle.world.specs.Sizes.{storeBytes}
 use Rattle.world.specs.Valid.{validWorld}
 use Rattle.play.specs.Calls.{Call}
 use Rattle.play.specs.Commands.{playCommand, oneCommand}
+use Rattle.play.specs.laws.CallLaws.{one-is-play}
 use Rattle.safety.specs.Claims.{Shaped}
 use Rattle.list.specs.Play.{Play, stopped, afterAsk, askAt, playFrom}
-use Rattle.list.specs.laws.CommandLaws.{place-after, one-is-play, store-kept, next-valid}
+use Rattle.list.specs.laws.CommandLaws.{place-after, store-kept, next-valid}
 
 -- by fuel
 

@@ -25,7 +25,7 @@ use Rattle.play.specs.declared.Head.{Head}
 use Rattle.play.specs.declared.Change.{Change}
 use Rattle.play.specs.Calls.{refuse, playedOf}
 use Rattle.play.specs.laws.Changes.{Ready, Acts, headOf, worldOf, changed, refusedChange, namedSite, actor}
-use Rattle.play.specs.Commands.{timeoutCall, crashCall, recoverCall, deliverCall, perform, performRead, playCommand}
+use Rattle.play.specs.Commands.{timeoutCall, crashCall, recoverCall, deliverCall, perform, performRead, playCommand, oneCommand}
 
 -- a world that passes 17 and a store with room need no further check
 pub ready : (w : World) (store : List ℕ) → storeBytes ≤ length store → validWorld w ≡ true → Ready (headOf w) store
@@ -37,6 +37,13 @@ ready w store room valid =
       few = valid-parts w valid .rows;
       room = room;
     }
+
+-- neither 16 nor 17
+pub one-is-play :
+    (w : World) (store list : List ℕ) (at : ℕ) → storeBytes ≤ length store → validWorld w ≡ true →
+    oneCommand w store list at ≡ playCommand w store list at
+unfolding oneCommand
+one-is-play w store list at room valid = rw (le-ltb (length store) storeBytes room, valid)
 
 -- a refusal changes nothing
 pub refused-acts :

@@ -1,9 +1,9 @@
 use mathlib.Core.Path.{sym, _∙_}
 use borrow.Author.Tests.{not-true, not-false}
 use Rattle.layout.specs.laws.LayoutLaws.{inside-length}
-use Rattle.quorum.specs.Calls.{leave}
-use Rattle.quorum.specs.laws.CallLaws.{command-16, command-17-result, command-17-world}
-use Rattle.quorum.specs.laws.CommandLaws.{command-17-valid}
+use Rattle.calls.specs.Calls.{leave}
+use Rattle.calls.specs.laws.CallLaws.{command-16, command-17-result, command-17-world}
+use Rattle.calls.specs.laws.CommandLaws.{command-17-valid}
 use borrow.Author.Needs.{needs}
 use Rattle.quorum.proofs.qc_play_command.Statement.{statement}
 use Rattle.quorum.proofs.qc_play_command.Tie as tie
@@ -11,7 +11,7 @@ use Rattle.quorum.proofs.qc_play_command.Reads as reads
 use Rattle.quorum.proofs.qc_play_command.Lts as lts
 use Rattle.inside.proofs.in_layout.Reads as in-layout-reads
 use Rattle.decode.proofs.valid_at.Reads as valid-at-reads
-use Rattle.quorum.proofs.command_at.play_at.Reads as play-at-reads
+use Rattle.calls.proofs.play_at.Reads as play-at-reads
 
 returns : tie.Need-returns
 unfolding leave

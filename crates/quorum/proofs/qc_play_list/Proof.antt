@@ -1,12 +1,12 @@
-use Rattle.quorum.specs.laws.CallLaws.{list-unfit-world, list-unfit-result, list-plays}
-use Rattle.quorum.specs.Calls.{leave, leavePlay}
+use Rattle.calls.specs.laws.CallLaws.{list-unfit-world, list-unfit-result, list-plays}
+use Rattle.calls.specs.Calls.{leave, leavePlay}
 use borrow.Author.Needs.{needs}
 use Rattle.quorum.proofs.qc_play_list.Statement.{statement}
 use Rattle.quorum.proofs.qc_play_list.Tie as tie
 use Rattle.quorum.proofs.qc_play_list.Reads as reads
 use Rattle.quorum.proofs.qc_play_list.Lts as lts
-use Rattle.quorum.proofs.number_of.Reads as number-of-reads
-use Rattle.quorum.proofs.unfit_number.Reads as unfit-number-reads
+use Rattle.calls.proofs.number_of.Reads as number-of-reads
+use Rattle.calls.proofs.unfit_number.Reads as unfit-number-reads
 use Rattle.encode.proofs.put_number.Reads as put-number-reads
 use Rattle.encode.proofs.put_world.Reads as put-world-reads
 use Rattle.list.proofs.play_list.Reads as play-list-reads

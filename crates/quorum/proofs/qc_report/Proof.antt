@@ -1,14 +1,14 @@
 use Rattle.layout.specs.laws.LayoutLaws.{inside-length}
 use mathlib.Core.Path.{sym, _∙_}
 use borrow.Author.Tests.{not-true, not-false}
-use Rattle.quorum.specs.Calls.{leaveBuffer}
-use Rattle.quorum.specs.laws.CallLaws.{report-17-result, report-17-world, report-17-number, report-not-written, report-accepted}
+use Rattle.calls.specs.Calls.{leaveBuffer}
+use Rattle.calls.specs.laws.CallLaws.{report-17-result, report-17-world, report-17-number, report-not-written, report-accepted}
 use borrow.Author.Needs.{needs}
 use Rattle.quorum.proofs.qc_report.Statement.{statement}
 use Rattle.quorum.proofs.qc_report.Tie as tie
 use Rattle.quorum.proofs.qc_report.Reads as reads
 use Rattle.quorum.proofs.qc_report.Lts as lts
-use Rattle.quorum.proofs.number_of.Reads as number-of-reads
+use Rattle.calls.proofs.number_of.Reads as number-of-reads
 use Rattle.inside.proofs.in_layout.Reads as in-layout-reads
 use Rattle.decode.proofs.world_at.Reads as world-at-reads
 use Rattle.encode.proofs.put_number.Reads as put-number-reads

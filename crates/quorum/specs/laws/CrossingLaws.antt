@@ -29,8 +29,8 @@ use Rattle.list.specs.laws.CommandLaws.{next-valid}
 use Rattle.layout.specs.Layout.{worldBytes, putWorld, worldAt, inLayout}
 use Rattle.layout.specs.Claims.{Fits}
 use Rattle.layout.specs.laws.LayoutLaws.{world-read-back, written-inside, inside-exact, read-sites, read-codes, read-joined}
-use Rattle.quorum.specs.Calls.{resultBytes, leave, leavePlay}
-use Rattle.quorum.specs.laws.CallLaws.{list-plays, command-16, command-17-result, command-17-world, command-refused, command-accepted}
+use Rattle.calls.specs.Calls.{resultBytes, leave, leavePlay}
+use Rattle.calls.specs.laws.CallLaws.{list-plays, command-16, command-17-result, command-17-world, command-refused, command-accepted}
 use Rattle.quorum.specs.Claims.{Holds, ListCrosses, CommandCrosses, Small, ResultFits}
 
 -- a world that passes 17 has numbers that fit their fields

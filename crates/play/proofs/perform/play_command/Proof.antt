@@ -14,7 +14,7 @@ use Rattle.play.proofs.perform.play_command.Lts as lts
 use Rattle.command.proofs.read_command.Reads as read-command-reads
 use Rattle.play.proofs.acts.act.Reads as act-reads
 use Rattle.play.proofs.acts.actor.Reads as actor-reads
-use Rattle.play.proofs.apart.head_of.Reads as head-of-reads
+use Rattle.play.proofs.told.head_of.Reads as head-of-reads
 
 read-command-requires : tie.Need-read-command-requires
 read-command-requires c κs = search needs

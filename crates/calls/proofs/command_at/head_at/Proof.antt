@@ -1,10 +1,10 @@
 use Rattle.play.specs.laws.Changes.{headOf}
 use Rattle.layout.specs.Layout.{worldAt}
 use borrow.Author.Needs.{needs}
-use Rattle.quorum.proofs.command_at.head_at.Statement.{statement}
-use Rattle.quorum.proofs.command_at.head_at.Tie as tie
-use Rattle.quorum.proofs.command_at.head_at.Reads as reads
-use Rattle.quorum.proofs.command_at.head_at.Lts as lts
+use Rattle.calls.proofs.command_at.head_at.Statement.{statement}
+use Rattle.calls.proofs.command_at.head_at.Tie as tie
+use Rattle.calls.proofs.command_at.head_at.Reads as reads
+use Rattle.calls.proofs.command_at.head_at.Lts as lts
 use Rattle.decode.proofs.word_at.Reads as word-at-reads
 use Rattle.word.proofs.wide.Reads as wide-reads
 

@@ -1,9 +1,9 @@
-use Rattle.quorum.specs.Calls.{unfitNumber}
+use Rattle.calls.specs.Calls.{unfitNumber}
 use borrow.Author.Tests.{lt-ltb, le-ltb}
-use Rattle.quorum.proofs.unfit_number.Statement.{statement}
-use Rattle.quorum.proofs.unfit_number.Tie as tie
-use Rattle.quorum.proofs.unfit_number.Reads as reads
-use Rattle.quorum.proofs.unfit_number.Lts as lts
+use Rattle.calls.proofs.numbers.unfit_number.Statement.{statement}
+use Rattle.calls.proofs.numbers.unfit_number.Tie as tie
+use Rattle.calls.proofs.numbers.unfit_number.Reads as reads
+use Rattle.calls.proofs.numbers.unfit_number.Lts as lts
 
 -- src/lib.rt:20:9
 returns : tie.Need-returns

@@ -17,12 +17,12 @@ use Rattle.play.specs.declared.Change.{Change}
 use Rattle.play.specs.Calls.{Call, refuse, playedOf}
 use Rattle.play.specs.Commands.{performRead, playCommand, oneCommand}
 use Rattle.play.specs.laws.Changes.{Ready, Acts, headOf, worldOf, changed, actor}
-use Rattle.play.specs.laws.CallLaws.{ready, acts-played}
+use Rattle.play.specs.laws.CallLaws.{ready, one-is-play, acts-played}
 use Rattle.layout.specs.Numbers.{putNumber}
 use Rattle.layout.specs.Layout.{worldBytes, sitePlace, siteAt, putWorld, worldAt, inLayout}
 use Rattle.layout.specs.laws.LayoutLaws.{site-of}
-use Rattle.quorum.specs.Calls.{resultBytes, leave, leaveCommand, commandCall}
-use Rattle.quorum.specs.laws.CallLaws.{command-plays, command-refused, command-accepted}
+use Rattle.calls.specs.Calls.{resultBytes, leave, leaveCommand, commandCall}
+use Rattle.calls.specs.laws.CallLaws.{command-plays, command-refused, command-accepted}
 
 -- what 16 and 17 have asked of the buffers; a byte is below 256
 pub record Playable (world store result : List ℕ) : Type 0 where
@@ -54,12 +54,6 @@ record Acted (world store list : List ℕ) (at own : ℕ) (c : Change) (after : 
   place : c .place ≡ oneCommand (worldAt world) store list at .place
   store-left : after ≡ oneCommand (worldAt world) store list at .store
 
-valid-plays :
-    (w : World) (store list : List ℕ) (at : ℕ) → storeBytes ≤ length store → validWorld w ≡ true →
-    oneCommand w store list at ≡ playCommand w store list at
-unfolding oneCommand
-valid-plays w store list at room valid = rw (le-ltb (length store) storeBytes room, valid)
-
 module _
     (world store list : List ℕ) (at : ℕ) (result : List ℕ) (reading : Reading) (h : Head) (own : ℕ) (s : Site) (c : Change)
     (after : List ℕ) (p : Playable world store result) (e : reading ≡ readCommand list at) (f : h ≡ headOf (worldAt world))
@@ -77,7 +71,7 @@ module _
   unfolding changed playedOf
   acted =
       let v : playCommand (worldAt world) store list at ≡ oneCommand (worldAt world) store list at =
-      sym (valid-plays (worldAt world) store list at (p .room) (p .valid)) in
+      sym (one-is-play (worldAt world) store list at (p .room) (p .valid)) in
       record {
         number = ap (λ x. x .number) (played .0) ∙ ap (λ x. x .number) v;
         world-left = ap (λ x. x .world) (played .0) ∙ ap (λ x. x .world) v;

@@ -18,7 +18,7 @@ use Rattle.report.specs.Report.{reportValid, untouched, report}
 use Rattle.report.specs.laws.ReportLaws.{report-refused}
 use Rattle.layout.specs.Numbers.{putNumber}
 use Rattle.layout.specs.Layout.{worldBytes, putWorld, worldAt, inLayout}
-use Rattle.quorum.specs.Calls.{resultBytes, leave, leavePlay, unfitNumber, listCall, leaveCommand, commandCall, leaveBuffer, leaveReport, reportCall}
+use Rattle.calls.specs.Calls.{resultBytes, leave, leavePlay, unfitNumber, listCall, leaveCommand, commandCall, leaveBuffer, leaveReport, reportCall}
 
 -- the list
 

@@ -1,12 +1,12 @@
 use native.Mathlib.Omega.{arith}
 use Rattle.layout.specs.laws.LayoutLaws.{inside-length}
-use Rattle.quorum.specs.Calls.{leave}
-use Rattle.quorum.specs.laws.CommandLaws.{playable-ready, change-refused, change-accepted}
+use Rattle.calls.specs.Calls.{leave}
+use Rattle.calls.specs.laws.CommandLaws.{playable-ready, change-refused, change-accepted}
 use borrow.Author.Needs.{needs}
-use Rattle.quorum.proofs.command_at.play_at.Statement.{statement}
-use Rattle.quorum.proofs.command_at.play_at.Tie as tie
-use Rattle.quorum.proofs.command_at.play_at.Reads as reads
-use Rattle.quorum.proofs.command_at.play_at.Lts as lts
+use Rattle.calls.proofs.command_at.play_at.Statement.{statement}
+use Rattle.calls.proofs.command_at.play_at.Tie as tie
+use Rattle.calls.proofs.command_at.play_at.Reads as reads
+use Rattle.calls.proofs.command_at.play_at.Lts as lts
 use Rattle.command.proofs.read_command.Reads as read-command-reads
 use Rattle.decode.proofs.site_at.Reads as site-at-reads
 use Rattle.encode.proofs.put_change.Reads as put-change-reads
@@ -14,8 +14,8 @@ use Rattle.encode.proofs.put_number.Reads as put-number-reads
 use Rattle.layout.proofs.site_place.Reads as site-place-reads
 use Rattle.play.proofs.act.Reads as act-reads
 use Rattle.play.proofs.actor.Reads as actor-reads
-use Rattle.quorum.proofs.command_at.head_at.Reads as head-at-reads
-use Rattle.quorum.proofs.number_of.Reads as number-of-reads
+use Rattle.calls.proofs.command_at.head_at.Reads as head-at-reads
+use Rattle.calls.proofs.numbers.number_of.Reads as number-of-reads
 
 read-command-requires : tie.Need-read-command-requires
 read-command-requires c κs = search needs
