@@ -23,7 +23,7 @@ fn play_commands(fresh: World, store: &mut [u8], list: &[u8]) -> ListPlayed
         let reading = command::read_command(list, at);
         let own = play::actor(reading, head.n);
         let site = sites[own];
-        let change = play::act(reading, head, site, store, at);
+        let change = act::act(reading, head, site, store, at);
         if change.number != 0 {
             return ListPlayed {
                 number: change.number,
