@@ -59,9 +59,9 @@ fn cut() {
 
 fn short_store() {
     let mut store = [0; 20479];
-    let played = play::one_command(fresh(), &mut store, b"\x01", 0);
+    let played = perform::one_command(fresh(), &mut store, b"\x01", 0);
     told(b"16 one command, a store of 20,479 bytes", played, 16, 0);
-    let damaged = play::one_command(World::zero(), &mut store, b"\x01", 0);
+    let damaged = perform::one_command(World::zero(), &mut store, b"\x01", 0);
     told(b"16 before 17", damaged, 16, 0);
 }
 

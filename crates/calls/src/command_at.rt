@@ -38,7 +38,7 @@ pub fn play_at(world: &mut [u8], store: &mut [u8], list: &[u8], at: usize, resul
     let head = head_at(world);
     let own = play::actor(reading, head.n);
     let site = decode::site_at(world, layout::site_place(own));
-    let change = play::act(reading, head, site, store, at);
+    let change = act::act(reading, head, site, store, at);
     if change.number != 0 {
         return number_of(change.number);
     }

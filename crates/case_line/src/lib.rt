@@ -79,7 +79,7 @@ pub fn told(name: &[u8], played: Played, number: u8, place: usize) {
 // One command in a world, with a store of noughts.
 pub fn command(name: &[u8], world: World, list: &[u8], at: usize, number: u8, place: usize) {
     let mut store = [0; World::STORE_BYTES];
-    let played = play::one_command(world, &mut store, list, at);
+    let played = perform::one_command(world, &mut store, list, at);
     told(name, played, number, place);
 }
 

@@ -22,7 +22,7 @@ fn play_commands(fresh: World, store: &mut [u8], list: &[u8]) -> ListPlayed
         let reading = command::read_command(list, at);
         let own = play::actor(reading, world.n);
         let site = world.sites[own];
-        let change = play::act(reading, play::head_of(world), site, store, at);
+        let change = act::act(reading, play::head_of(world), site, store, at);
         if change.number != 0 {
             return ListPlayed {
                 number: change.number,

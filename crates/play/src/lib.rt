@@ -1,13 +1,13 @@
-// One command: the refusals in the table's order, then the rule; the site put back and its row added.
-mod acts;
-mod commands;
-mod enter;
-mod perform;
+// One command: what it is told, what it leaves, and how a rule's step enters them. The command itself is acted out in `act`, on a world in
+// `perform`.
+mod entry;
+mod named;
 mod told;
 
-pub use acts::act;
-pub use acts::actor;
-pub use perform::one_command;
+pub use entry::enter;
+pub use entry::refused;
+pub use named::actor;
+pub use named::named_site;
 use site::AbortQuorum;
 use site::CommitQuorum;
 use site::Site;

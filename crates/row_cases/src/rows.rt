@@ -30,7 +30,7 @@ fn place_after(number: u8) -> usize {
 
 fn send(name: &[u8], world: World, store: &mut [u8], site: u8, number: u8) {
     let list = [2, 0, 0, site];
-    let played = play::one_command(world, store, &list, 0);
+    let played = perform::one_command(world, store, &list, 0);
     told(name, played, number, place_after(number));
 }
 

@@ -23,7 +23,7 @@ pub fn cases() {
 
 fn crash_number(world: World) -> u8 {
     let mut store = [0; 20480];
-    let played = play::one_command(world, &mut store, b"\x04\x02", 0);
+    let played = perform::one_command(world, &mut store, b"\x04\x02", 0);
     played.number
 }
 

@@ -12,7 +12,7 @@ use Rattle.decode.proofs.site_at.Reads as site-at-reads
 use Rattle.encode.proofs.put_change.Reads as put-change-reads
 use Rattle.encode.proofs.put_number.Reads as put-number-reads
 use Rattle.layout.proofs.site_place.Reads as site-place-reads
-use Rattle.play.proofs.act.Reads as act-reads
+use Rattle.act.proofs.act.Reads as act-reads
 use Rattle.play.proofs.actor.Reads as actor-reads
 use Rattle.calls.proofs.command_at.head_at.Reads as head-at-reads
 use Rattle.calls.proofs.numbers.number_of.Reads as number-of-reads

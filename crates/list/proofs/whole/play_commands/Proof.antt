@@ -17,7 +17,7 @@ use Rattle.list.proofs.whole.play_commands.Tie as tie
 use Rattle.list.proofs.whole.play_commands.Reads as reads
 use Rattle.list.proofs.whole.play_commands.Lts as lts
 use Rattle.command.proofs.read_command.Reads as read-command-reads
-use Rattle.play.proofs.act.Reads as act-reads
+use Rattle.act.proofs.act.Reads as act-reads
 use Rattle.play.proofs.actor.Reads as actor-reads
 use Rattle.play.proofs.head_of.Reads as head-of-reads
 
