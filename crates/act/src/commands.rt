@@ -3,12 +3,12 @@ ghost use mathlib.Core.Path.{_≡_};
 ghost use Prim.Native.Nat.{_<_};
 ghost use Rattle.play.specs.laws.Changes.{Ready, Acts};
 ghost use Rattle.play.specs.Commands.{startCall, timeoutCall, crashCall, recoverCall, deliverRow, deliverCall};
+use participant::Participant;
 use play::Change;
 use play::Head;
 use play::enter;
 use play::refused;
 use row::Row;
-use rules::Participant;
 use site::Site;
 
 pub fn start(head: Head, store: &mut [u8], at: usize, next: usize, site: Site) -> Change

@@ -1,11 +1,10 @@
-// DELIVER: merge, adopt an outcome, answer by kind.
+// DELIVER, after the merge: an outcome adopted, the answer by kind.
 ghost use mathlib.Core.Path.{_≡_};
 ghost use mathlib.Core.List.{List};
 ghost use Prim.Native.Nat.{_<_, _≤_};
 ghost use Rattle.site.specs.State.{stateOf};
 ghost use Rattle.site.specs.Records.{Written};
-ghost use Rattle.rules.specs.Rules.{adoptCode, adopt, voteIn, joinCommitIn, joinAbortIn, answer, deliver};
-use crate::Participant;
+ghost use Rattle.rules.specs.Rules.{adoptCode, adopt, voteIn, joinCommitIn, joinAbortIn, answer};
 use crate::Step;
 use crate::send::replying;
 use crate::send::silent;
@@ -30,7 +29,7 @@ fn adopt_code(code: u8, own: usize, site: Site) -> Site
 }
 
 // The outcome that the lowest site shows, written if the site is not terminated.
-fn adopt(own: usize, n: usize, site: Site) -> Site
+pub fn adopt(own: usize, n: usize, site: Site) -> Site
     requires { ⌜ (n ≤ 16) × (own < n) ⌝ }
     ensures { λ r. ⌜ r ≡ (adopt own n site) .site ⌝ }
 {
@@ -95,7 +94,7 @@ fn on_join_abort(own: usize, site: Site) -> Site
 }
 
 // By the row's kind, after the merge, whatever records the merge led to.
-fn answer(kind: u8, own: usize, sender: usize, willing: bool, site: Site) -> Step
+pub fn answer(kind: u8, own: usize, sender: usize, willing: bool, site: Site) -> Step
     requires { ⌜ (own < 16) × (sender < 16) ⌝ }
     ensures { λ r. ⌜ ((earlier : List Written) → r ≡ (answer kind own sender willing (record { site = site; records = earlier })) .step) ⌝ }
 {
@@ -112,20 +111,4 @@ fn answer(kind: u8, own: usize, sender: usize, willing: bool, site: Site) -> Ste
         return replying(7, own, sender, site);
     }
     silent(site)
-}
-
-impl Participant {
-    pub fn deliver(mut self, willing: bool, row: Row) -> Step
-        requires { ⌜ (self .n ≤ 16) × (self .own < self .n) × (row .sender < self .n) ⌝ }
-        ensures { λ r. ⌜ r ≡ (deliver (self .own) (self .n) willing row (self .site)) .step ⌝ }
-    {
-        let own = self.own;
-        let n = self.n;
-        let mut site = self.site;
-        let said = row.codes;
-        let held = site.codes;
-        let merged = vector::merge(n, own, said, held);
-        site.codes = merged;
-        answer(row.kind, own, row.sender, willing, adopt(own, n, site))
-    }
 }

@@ -1,19 +1,20 @@
-// The site rules: START, TIMEOUT, DELIVER, CRASH and RECOVER.
-mod crash;
+// What the site rules are made of; the rules themselves are the methods of `participant`.
 mod deliver;
+mod kept;
 mod send;
-mod start;
 mod timeout;
 
+pub use deliver::adopt;
+pub use deliver::answer;
+pub use kept::kept_vector;
 use row::Row;
+pub use send::commanding;
+pub use send::silent;
 use site::Site;
-
-// A site with its number, among n sites.
-pub struct Participant {
-    pub own: usize,
-    pub n: usize,
-    pub site: Site,
-}
+pub use timeout::take_over;
+pub use timeout::timeout_in_abort_group;
+pub use timeout::timeout_in_commit_group;
+pub use timeout::timeout_prepared;
 
 // What a rule hands back: the next site, and the row it sends (kind 0: none).
 pub struct Step {

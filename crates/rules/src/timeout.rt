@@ -1,21 +1,18 @@
-// TIMEOUT.
+// TIMEOUT in each state but active.
 ghost use mathlib.Core.Path.{_≡_};
 ghost use Prim.Native.Nat.{_<_, _≤_};
 ghost use Rattle.choice.specs.Choice.{pick};
-ghost use Rattle.rules.specs.Rules.{takeOver, chooseGroup, decideCommit, decideAbort, timeout};
-use crate::Participant;
+ghost use Rattle.rules.specs.Rules.{takeOver, chooseGroup, decideCommit, decideAbort};
 use crate::Step;
 use crate::send::commanding;
-use crate::send::silent;
 use site::AbortQuorum;
 use site::CommitQuorum;
 use site::Group;
 use site::Outcome;
 use site::Site;
-use site::State;
 
 // Become coordinator and send the command of the state.
-fn take_over(kind: u8, own: usize, n: usize, mut site: Site) -> Step
+pub fn take_over(kind: u8, own: usize, n: usize, mut site: Site) -> Step
     requires { ⌜ (n ≤ 16) × (own < n) ⌝ }
     ensures { λ r. ⌜ r ≡ (takeOver kind own n site) .step ⌝ }
 {
@@ -23,7 +20,7 @@ fn take_over(kind: u8, own: usize, n: usize, mut site: Site) -> Step
     commanding(kind, own, n, site)
 }
 
-fn timeout_prepared(own: usize, n: usize, site: Site) -> Step
+pub fn timeout_prepared(own: usize, n: usize, site: Site) -> Step
     requires { ⌜ (n ≤ 16) × (own < n) ⌝ }
     ensures { λ r. ⌜ r ≡ (pick (site .coordinator) (chooseGroup own n site) (takeOver 1 own n site)) .step ⌝ }
 {
@@ -40,7 +37,7 @@ fn timeout_prepared(own: usize, n: usize, site: Site) -> Step
     take_over(1, own, n, site)
 }
 
-fn timeout_in_commit_group(own: usize, n: usize, commit: CommitQuorum, site: Site) -> Step
+pub fn timeout_in_commit_group(own: usize, n: usize, commit: CommitQuorum, site: Site) -> Step
     requires { ⌜ (n ≤ 16) × (own < n) ⌝ }
     ensures { λ r. ⌜ r ≡ (pick (site .coordinator) (decideCommit own n commit site) (takeOver 3 own n site)) .step ⌝ }
 {
@@ -54,7 +51,7 @@ fn timeout_in_commit_group(own: usize, n: usize, commit: CommitQuorum, site: Sit
     take_over(3, own, n, site)
 }
 
-fn timeout_in_abort_group(own: usize, n: usize, abort: AbortQuorum, site: Site) -> Step
+pub fn timeout_in_abort_group(own: usize, n: usize, abort: AbortQuorum, site: Site) -> Step
     requires { ⌜ (n ≤ 16) × (own < n) ⌝ }
     ensures { λ r. ⌜ r ≡ (pick (site .coordinator) (decideAbort own n abort site) (takeOver 4 own n site)) .step ⌝ }
 {
@@ -66,24 +63,4 @@ fn timeout_in_abort_group(own: usize, n: usize, abort: AbortQuorum, site: Site) 
         return commanding(4, own, n, site);
     }
     take_over(4, own, n, site)
-}
-
-impl Participant {
-    pub fn timeout(mut self, commit: CommitQuorum, abort: AbortQuorum) -> Step
-        requires { ⌜ (self .n ≤ 16) × (self .own < self .n) ⌝ }
-        ensures { λ r. ⌜ r ≡ (timeout (self .own) (self .n) commit abort (self .site)) .step ⌝ }
-    {
-        let own = self.own;
-        let n = self.n;
-        let site = self.site;
-        let state = site.state();
-        match state {
-            State::Active => silent(site.write_outcome(own, Outcome::Abort, 5)),
-            State::Prepared => timeout_prepared(own, n, site),
-            State::CommitGroup => timeout_in_commit_group(own, n, commit, site),
-            State::AbortGroup => timeout_in_abort_group(own, n, abort, site),
-            State::Committed => take_over(6, own, n, site),
-            State::Aborted => take_over(6, own, n, site),
-        }
-    }
 }

@@ -11,7 +11,7 @@ use Rattle.act.proofs.commands.crash.Reads as reads
 use Rattle.act.proofs.commands.crash.Lts as lts
 use Rattle.play.proofs.enter.Reads as enter-reads
 use Rattle.play.proofs.refused.Reads as refused-reads
-use Rattle.rules.proofs.Participant.crash.Reads as crash-reads
+use Rattle.participant.proofs.Participant.crash.Reads as crash-reads
 
 -- src/commands.rt:59:13
 crash-requires : tie.Need-crash-requires

@@ -15,7 +15,7 @@ use Rattle.play.proofs.enter.Reads as enter-reads
 use Rattle.play.proofs.refused.Reads as refused-reads
 use Rattle.row.proofs.has_bit.Reads as has-bit-reads
 use Rattle.row.proofs.row_known.Reads as row-known-reads
-use Rattle.rules.proofs.Participant.deliver.Reads as deliver-reads
+use Rattle.participant.proofs.Participant.deliver.Reads as deliver-reads
 
 -- src/commands.rt:96:8
 row-known-requires : tie.Need-row-known-requires

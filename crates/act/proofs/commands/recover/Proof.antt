@@ -11,7 +11,7 @@ use Rattle.act.proofs.commands.recover.Reads as reads
 use Rattle.act.proofs.commands.recover.Lts as lts
 use Rattle.play.proofs.enter.Reads as enter-reads
 use Rattle.play.proofs.refused.Reads as refused-reads
-use Rattle.rules.proofs.Participant.recover.Reads as recover-reads
+use Rattle.participant.proofs.Participant.recover.Reads as recover-reads
 
 -- src/commands.rt:77:9
 refused-requires : tie.Need-refused-requires

@@ -11,7 +11,7 @@ use Rattle.act.proofs.commands.timeout.Reads as reads
 use Rattle.act.proofs.commands.timeout.Lts as lts
 use Rattle.play.proofs.enter.Reads as enter-reads
 use Rattle.play.proofs.refused.Reads as refused-reads
-use Rattle.rules.proofs.Participant.timeout.Reads as timeout-reads
+use Rattle.participant.proofs.Participant.timeout.Reads as timeout-reads
 
 -- src/commands.rt:41:13
 timeout-requires : tie.Need-timeout-requires

@@ -1,10 +1,10 @@
 use borrow.Author.Needs.{needs}
 use Rattle.site.specs.Fields.{zeroVector}
 use Rattle.rules.specs.Rules.{keptVector}
-use Rattle.rules.proofs.crash.kept_vector.Statement.{statement}
-use Rattle.rules.proofs.crash.kept_vector.Tie as tie
-use Rattle.rules.proofs.crash.kept_vector.Reads as reads
-use Rattle.rules.proofs.crash.kept_vector.Lts as lts
+use Rattle.rules.proofs.kept.kept_vector.Statement.{statement}
+use Rattle.rules.proofs.kept.kept_vector.Tie as tie
+use Rattle.rules.proofs.kept.kept_vector.Reads as reads
+use Rattle.rules.proofs.kept.kept_vector.Lts as lts
 
 enum-told : tie.Need-enum-told
 enum-told c = search needs

@@ -1,17 +1,17 @@
 use mathlib.Core.Path.{sym, _∙_}
 use borrow.Author.Needs.{needs}
 use Rattle.site.specs.Records.{writeOutcome, outcomeOf, recordCode}
 use Rattle.rules.specs.Rules.{timeout, timeoutIn, silent}
-use Rattle.rules.proofs.Participant.timeout.Statement.{statement}
-use Rattle.rules.proofs.Participant.timeout.Tie as tie
-use Rattle.rules.proofs.Participant.timeout.Reads as reads
-use Rattle.rules.proofs.Participant.timeout.Lts as lts
-use Rattle.rules.proofs.send.silent.Reads as silent-reads
+use Rattle.participant.proofs.Participant.timeout.Statement.{statement}
+use Rattle.participant.proofs.Participant.timeout.Tie as tie
+use Rattle.participant.proofs.Participant.timeout.Reads as reads
+use Rattle.participant.proofs.Participant.timeout.Lts as lts
+use Rattle.rules.proofs.silent.Reads as silent-reads
 use Rattle.site.proofs.Site.state.Reads as state-reads
-use Rattle.rules.proofs.timeout.take_over.Reads as take-over-reads
-use Rattle.rules.proofs.timeout.timeout_in_abort_group.Reads as timeout-in-abort-group-reads
-use Rattle.rules.proofs.timeout.timeout_in_commit_group.Reads as timeout-in-commit-group-reads
-use Rattle.rules.proofs.timeout.timeout_prepared.Reads as timeout-prepared-reads
+use Rattle.rules.proofs.take_over.Reads as take-over-reads
+use Rattle.rules.proofs.timeout_in_abort_group.Reads as timeout-in-abort-group-reads
+use Rattle.rules.proofs.timeout_in_commit_group.Reads as timeout-in-commit-group-reads
+use Rattle.rules.proofs.timeout_prepared.Reads as timeout-prepared-reads
 use Rattle.site.proofs.Site.write_outcome.Reads as write-outcome-reads
 
 state-requires : tie.Need-state-requires

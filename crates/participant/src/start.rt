@@ -1,10 +1,10 @@
 // START, at site 0.
 ghost use mathlib.Core.Path.{_≡_};
 ghost use Prim.Native.Nat.{_<_, _≤_};
 ghost use Rattle.rules.specs.Rules.{start};
 use crate::Participant;
-use crate::Step;
-use crate::send::commanding;
+use rules::Step;
+use rules::commanding;
 use site::Outcome;
 
 impl Participant {

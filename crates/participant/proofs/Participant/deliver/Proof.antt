@@ -1,12 +1,12 @@
 use borrow.Author.Needs.{needs}
 use Rattle.site.specs.Fields.{withCodes}
 use Rattle.rules.specs.Rules.{adopt, deliver, hear}
-use Rattle.rules.proofs.Participant.deliver.Statement.{statement}
-use Rattle.rules.proofs.Participant.deliver.Tie as tie
-use Rattle.rules.proofs.Participant.deliver.Reads as reads
-use Rattle.rules.proofs.Participant.deliver.Lts as lts
-use Rattle.rules.proofs.deliver.adopt.Reads as adopt-reads
-use Rattle.rules.proofs.deliver.answer.Reads as answer-reads
+use Rattle.participant.proofs.Participant.deliver.Statement.{statement}
+use Rattle.participant.proofs.Participant.deliver.Tie as tie
+use Rattle.participant.proofs.Participant.deliver.Reads as reads
+use Rattle.participant.proofs.Participant.deliver.Lts as lts
+use Rattle.rules.proofs.adopt.Reads as adopt-reads
+use Rattle.rules.proofs.answer.Reads as answer-reads
 use Rattle.vector.proofs.merge.Reads as merge-reads
 
 merge-requires : tie.Need-merge-requires

@@ -1,13 +1,13 @@
 use borrow.Author.Needs.{needs}
 use Rattle.site.specs.Fields.{withUp, withCoordinator, withCodes}
 use Rattle.rules.specs.Rules.{crash, silent}
-use Rattle.rules.proofs.Participant.crash.Statement.{statement}
-use Rattle.rules.proofs.Participant.crash.Tie as tie
-use Rattle.rules.proofs.Participant.crash.Reads as reads
-use Rattle.rules.proofs.Participant.crash.Lts as lts
-use Rattle.rules.proofs.send.silent.Reads as silent-reads
+use Rattle.participant.proofs.Participant.crash.Statement.{statement}
+use Rattle.participant.proofs.Participant.crash.Tie as tie
+use Rattle.participant.proofs.Participant.crash.Reads as reads
+use Rattle.participant.proofs.Participant.crash.Lts as lts
+use Rattle.rules.proofs.silent.Reads as silent-reads
 use Rattle.site.proofs.Site.state.Reads as state-reads
-use Rattle.rules.proofs.crash.kept_vector.Reads as kept-vector-reads
+use Rattle.rules.proofs.kept_vector.Reads as kept-vector-reads
 use Rattle.site.proofs.code_of.Reads as code-of-reads
 
 kept-vector-requires : tie.Need-kept-vector-requires

@@ -1,12 +1,12 @@
 use borrow.Author.Needs.{needs}
 use Rattle.site.specs.Fields.{withCoordinator, withPrepared, withCodes, withOutcome}
 use Rattle.site.specs.Records.{writePrepare, writeOutcome, withOwn, outcomeOf, recordCode}
 use Rattle.rules.specs.Rules.{start, commanding, commandRow}
-use Rattle.rules.proofs.Participant.start.Statement.{statement}
-use Rattle.rules.proofs.Participant.start.Tie as tie
-use Rattle.rules.proofs.Participant.start.Reads as reads
-use Rattle.rules.proofs.Participant.start.Lts as lts
-use Rattle.rules.proofs.send.commanding.Reads as commanding-reads
+use Rattle.participant.proofs.Participant.start.Statement.{statement}
+use Rattle.participant.proofs.Participant.start.Tie as tie
+use Rattle.participant.proofs.Participant.start.Reads as reads
+use Rattle.participant.proofs.Participant.start.Lts as lts
+use Rattle.rules.proofs.commanding.Reads as commanding-reads
 use Rattle.site.proofs.Site.write_outcome.Reads as write-outcome-reads
 use Rattle.site.proofs.Site.write_prepare.Reads as write-prepare-reads
 

@@ -1,26 +1,11 @@
 // CRASH and RECOVER.
 ghost use mathlib.Core.Path.{_≡_};
 ghost use Prim.Native.Nat.{_<_};
-ghost use Rattle.rules.specs.Rules.{keptVector, crash, recover};
+ghost use Rattle.rules.specs.Rules.{crash, recover};
 use crate::Participant;
-use crate::Step;
-use crate::send::silent;
-use site::Group;
-use site::Site;
-
-// What a crash leaves of the vector.
-fn kept_vector(site: Site) -> [u8; 16]
-    ensures { λ r. ⌜ r ≡ keptVector (site .group) (site .joined) ⌝ }
-{
-    let group = site.group;
-    let joined = site.joined;
-    let none = [0; 16];
-    match group {
-        Group::None => none,
-        Group::Commit => joined,
-        Group::Abort => joined,
-    }
-}
+use rules::Step;
+use rules::kept_vector;
+use rules::silent;
 
 impl Participant {
     pub fn crash(mut self) -> Step

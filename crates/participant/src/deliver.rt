@@ -1,0 +1,25 @@
+// DELIVER: merge, adopt an outcome, answer by kind.
+ghost use mathlib.Core.Path.{_≡_};
+ghost use Prim.Native.Nat.{_<_, _≤_};
+ghost use Rattle.rules.specs.Rules.{deliver};
+use crate::Participant;
+use row::Row;
+use rules::Step;
+use rules::adopt;
+use rules::answer;
+
+impl Participant {
+    pub fn deliver(mut self, willing: bool, row: Row) -> Step
+        requires { ⌜ (self .n ≤ 16) × (self .own < self .n) × (row .sender < self .n) ⌝ }
+        ensures { λ r. ⌜ r ≡ (deliver (self .own) (self .n) willing row (self .site)) .step ⌝ }
+    {
+        let own = self.own;
+        let n = self.n;
+        let mut site = self.site;
+        let said = row.codes;
+        let held = site.codes;
+        let merged = vector::merge(n, own, said, held);
+        site.codes = merged;
+        answer(row.kind, own, row.sender, willing, adopt(own, n, site))
+    }
+}

@@ -1,0 +1,35 @@
+// TIMEOUT, by state.
+ghost use mathlib.Core.Path.{_≡_};
+ghost use Prim.Native.Nat.{_<_, _≤_};
+ghost use Rattle.rules.specs.Rules.{timeout};
+use crate::Participant;
+use rules::Step;
+use rules::silent;
+use rules::take_over;
+use rules::timeout_in_abort_group;
+use rules::timeout_in_commit_group;
+use rules::timeout_prepared;
+use site::AbortQuorum;
+use site::CommitQuorum;
+use site::Outcome;
+use site::State;
+
+impl Participant {
+    pub fn timeout(mut self, commit: CommitQuorum, abort: AbortQuorum) -> Step
+        requires { ⌜ (self .n ≤ 16) × (self .own < self .n) ⌝ }
+        ensures { λ r. ⌜ r ≡ (timeout (self .own) (self .n) commit abort (self .site)) .step ⌝ }
+    {
+        let own = self.own;
+        let n = self.n;
+        let site = self.site;
+        let state = site.state();
+        match state {
+            State::Active => silent(site.write_outcome(own, Outcome::Abort, 5)),
+            State::Prepared => timeout_prepared(own, n, site),
+            State::CommitGroup => timeout_in_commit_group(own, n, commit, site),
+            State::AbortGroup => timeout_in_abort_group(own, n, abort, site),
+            State::Committed => take_over(6, own, n, site),
+            State::Aborted => take_over(6, own, n, site),
+        }
+    }
+}
