@@ -18,7 +18,7 @@ pub fn start(head: Head, store: &mut [u8], at: usize, next: usize, site: Site) -
     if site.up {
         if site::is_active(site.state()) {
             let n = head.n;
-            let willing = row::has_bit(head.willing, 0);
+            let willing = bits::has_bit(head.willing, 0);
             let step = Participant { own: 0, n, site }.start(willing);
             return enter(head, store, at, next, 0, site, step);
         }
@@ -93,10 +93,10 @@ fn deliver_row(
     ensures { λ r. ⌜ Acts head own site r (now (store .exit)) (λ w. deliverRow w (now (store .entry)) at next row own) ⌝ }
 {
     if row::row_known(head.n, row) {
-        if row::has_bit(row.destinations, own) {
+        if bits::has_bit(row.destinations, own) {
             if site.up {
                 let n = head.n;
-                let willing = row::has_bit(head.willing, own);
+                let willing = bits::has_bit(head.willing, own);
                 let step = Participant { own, n, site }.deliver(willing, row);
                 return enter(head, store, at, next, own, site, step);
             }

@@ -6,7 +6,7 @@ use lib.Dec.{ltb}
 use lib.ListN.{length}
 use Rattle.choice.specs.Choice.{pick}
 use Rattle.row.specs.declared.Row.{Row}
-use Rattle.row.specs.Bits.{hasBit}
+use Rattle.bits.specs.Bits.{hasBit}
 use Rattle.row.specs.Rows.{getRow, rowKnown}
 use Rattle.site.specs.State.{stateOf, isActive}
 use Rattle.rules.specs.Rules.{start, timeout, deliver, crash, recover}

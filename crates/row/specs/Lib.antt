@@ -1,4 +1,3 @@
-pub mod Bits
 pub mod Rows
 pub mod Claims
 pub mod laws

@@ -1,11 +1,7 @@
-// A row, its twenty bytes in the store, and sets of sites as bits.
-mod bits;
+// A row, and its twenty bytes in the store.
 mod known;
 mod store;
 
-pub use bits::has_bit;
-pub use bits::only_site;
-pub use bits::other_sites;
 pub use known::row_known;
 pub use store::get_codes;
 pub use store::get_row;

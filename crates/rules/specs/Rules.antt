@@ -8,7 +8,7 @@ use lib.ListN.{set}
 use Rattle.choice.specs.Choice.{pick, either}
 use Rattle.vector.specs.Vector.{count, merge, lowestOutcome}
 use Rattle.row.specs.declared.Row.{Row}
-use Rattle.row.specs.Bits.{onlySite, otherSites}
+use Rattle.bits.specs.Bits.{onlySite, otherSites}
 use Rattle.row.specs.Rows.{noRow}
 use Rattle.site.specs.declared.Group.{Group}
 use Rattle.site.specs.declared.Group.the-variants as Group·

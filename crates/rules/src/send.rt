@@ -26,7 +26,7 @@ pub fn commanding(kind: u8, own: usize, n: usize, site: Site) -> Step
         row: Row {
             kind,
             sender: own,
-            destinations: row::other_sites(n, own),
+            destinations: bits::other_sites(n, own),
             codes,
         },
     }
@@ -42,7 +42,7 @@ pub fn replying(kind: u8, own: usize, to: usize, site: Site) -> Step
         row: Row {
             kind,
             sender: own,
-            destinations: row::only_site(to),
+            destinations: bits::only_site(to),
             codes,
         },
     }

@@ -6,7 +6,7 @@ use mathlib.Core.Path.{_≡_}
 use lib.Dec.{eqb}
 use lib.ListN.{length, getD}
 use Rattle.choice.specs.Choice.{pick, both}
-use Rattle.row.specs.Bits.{hasBit}
+use Rattle.bits.specs.Bits.{hasBit}
 use Rattle.row.specs.Rows.{getRow, rowPlace}
 use Rattle.site.specs.State.{stateOf, codeOf, isActive}
 use Rattle.site.specs.Records.{Written, recordCode}

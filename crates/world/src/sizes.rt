@@ -19,7 +19,7 @@ fn quorums_number(n: usize, commit: CommitQuorum, abort: AbortQuorum, willing: u
     if commit.0 + abort.0 <= n {
         return 4;
     }
-    if row::only_site(n) <= willing {
+    if bits::only_site(n) <= willing {
         return 5;
     }
     0

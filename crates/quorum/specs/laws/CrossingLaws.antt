@@ -10,7 +10,7 @@ use borrow.Author.Tests.{ltb-true, ltb-false, eqb-true, ne-eqb}
 use Rattle.choice.specs.Choice.{pick}
 use Rattle.choice.specs.laws.ChoiceLaws.{pick-ind}
 use Rattle.choice.specs.laws.Cases.{by-test, by-equal}
-use Rattle.row.specs.laws.BitLaws.{bits-below}
+use Rattle.bits.specs.laws.BitLaws.{bits-below}
 use Rattle.world.specs.declared.World.{World}
 use Rattle.world.specs.Sizes.{storeBytes, sizesNumber}
 use Rattle.world.specs.laws.SizesLaws.{Sized}

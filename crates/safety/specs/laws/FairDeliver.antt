@@ -11,7 +11,7 @@ use Rattle.choice.specs.Choice.{pick}
 use Rattle.choice.specs.laws.ChoiceLaws.{pick-ind}
 use Rattle.vector.specs.Vector.{merge, lowestOutcome}
 use Rattle.row.specs.declared.Row.{Row}
-use Rattle.row.specs.Bits.{hasBit}
+use Rattle.bits.specs.Bits.{hasBit}
 use Rattle.site.specs.declared.State.{State}
 use Rattle.site.specs.declared.State.the-variants as State·
 use Rattle.site.specs.declared.Site.{Site}

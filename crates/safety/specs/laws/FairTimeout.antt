@@ -10,7 +10,7 @@ use borrow.Author.Tests.{ltb-true, leb-true, eqb-true}
 use Rattle.choice.specs.Choice.{either}
 use Rattle.choice.specs.laws.ChoiceLaws.{pick-ind}
 use Rattle.vector.specs.Vector.{siteWeight, count}
-use Rattle.row.specs.Bits.{hasBit}
+use Rattle.bits.specs.Bits.{hasBit}
 use Rattle.site.specs.declared.State.{State}
 use Rattle.site.specs.declared.State.the-variants as State·
 use Rattle.site.specs.declared.Site.{Site}

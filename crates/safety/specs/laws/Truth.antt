@@ -6,7 +6,7 @@ use mathlib.Core.Path.{_≡_}
 use lib.ListN.{length, getD}
 use Rattle.choice.specs.Choice.{pick}
 use Rattle.row.specs.declared.Row.{Row}
-use Rattle.row.specs.Bits.{hasBit}
+use Rattle.bits.specs.Bits.{hasBit}
 use Rattle.vector.specs.Vector.{siteWeight}
 use Rattle.site.specs.declared.CommitQuorum.{CommitQuorum}
 use Rattle.site.specs.declared.AbortQuorum.{AbortQuorum}

@@ -9,7 +9,7 @@ use lib.ListN.{length, getD}
 use borrow.Author.Tests.{ltb-true, ltb-false, eqb-true, eqb-false}
 use Rattle.choice.specs.Choice.{pick}
 use Rattle.choice.specs.laws.ChoiceLaws.{pick-ind}
-use Rattle.row.specs.Bits.{hasBit}
+use Rattle.bits.specs.Bits.{hasBit}
 use Rattle.row.specs.Rows.{getRow, rowKnown}
 use Rattle.site.specs.State.{stateOf, isActive}
 use Rattle.rules.specs.Rules.{Move, start, timeout, deliver, crash, recover}

@@ -9,7 +9,7 @@ use lib.ListN.{set}
 use borrow.Author.Tests.{eq-eqb}
 use Rattle.choice.specs.Choice.{pick}
 use Rattle.choice.specs.laws.ChoiceLaws.{pick-on, pick-off}
-use Rattle.row.specs.Bits.{hasBit}
+use Rattle.bits.specs.Bits.{hasBit}
 use Rattle.site.specs.declared.Site.{Site}
 use Rattle.site.specs.Fields.{withPrepared, withGroup, withOutcome, withCodes}
 use Rattle.site.specs.Records.{Written, LogRecord, prepareRecord, groupRecord, outcomeRecord, commit, abort, wrote, recordCode, groupOf, outcomeOf, withOwn, writePrepare, joinGroup, writeOutcome}

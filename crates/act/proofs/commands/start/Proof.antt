@@ -11,7 +11,7 @@ use Rattle.act.proofs.commands.start.Reads as reads
 use Rattle.act.proofs.commands.start.Lts as lts
 use Rattle.play.proofs.enter.Reads as enter-reads
 use Rattle.play.proofs.refused.Reads as refused-reads
-use Rattle.row.proofs.has_bit.Reads as has-bit-reads
+use Rattle.bits.proofs.has_bit.Reads as has-bit-reads
 use Rattle.participant.proofs.Participant.start.Reads as start-reads
 use Rattle.site.proofs.Site.state.Reads as state-reads
 use Rattle.site.proofs.is_active.Reads as is-active-reads

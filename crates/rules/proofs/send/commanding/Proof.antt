@@ -4,7 +4,7 @@ use Rattle.rules.proofs.send.commanding.Statement.{statement}
 use Rattle.rules.proofs.send.commanding.Tie as tie
 use Rattle.rules.proofs.send.commanding.Reads as reads
 use Rattle.rules.proofs.send.commanding.Lts as lts
-use Rattle.row.proofs.other_sites.Reads as other-sites-reads
+use Rattle.bits.proofs.other_sites.Reads as other-sites-reads
 
 other-sites-requires : tie.Need-other-sites-requires
 other-sites-requires c κs = search needs

@@ -4,7 +4,7 @@ use Rattle.rules.proofs.send.replying.Statement.{statement}
 use Rattle.rules.proofs.send.replying.Tie as tie
 use Rattle.rules.proofs.send.replying.Reads as reads
 use Rattle.rules.proofs.send.replying.Lts as lts
-use Rattle.row.proofs.only_site.Reads as only-site-reads
+use Rattle.bits.proofs.only_site.Reads as only-site-reads
 
 only-site-requires : tie.Need-only-site-requires
 only-site-requires c κs = search needs

@@ -1,13 +1,13 @@
 use borrow.Author.Needs.{needs}
 use borrow.Author.Tests.{le-leb, lt-leb}
-use Rattle.row.specs.Bits.{onlySite}
+use Rattle.bits.specs.Bits.{onlySite}
 use Rattle.choice.specs.laws.ChoiceLaws.{tests}
 use Rattle.world.specs.Sizes.{quorumsNumber}
 use Rattle.world.proofs.sizes.quorums_number.Statement.{statement}
 use Rattle.world.proofs.sizes.quorums_number.Tie as tie
 use Rattle.world.proofs.sizes.quorums_number.Reads as reads
 use Rattle.world.proofs.sizes.quorums_number.Lts as lts
-use Rattle.row.proofs.only_site.Reads as only-site-reads
+use Rattle.bits.proofs.only_site.Reads as only-site-reads
 
 returns : tie.Need-returns
 unfolding quorumsNumber

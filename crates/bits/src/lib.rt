@@ -1,7 +1,7 @@
 // Sets of sites as bits.
 ghost use mathlib.Core.Path.{_≡_};
 ghost use Prim.Native.Nat.{_^_, _≤_, _<_};
-ghost use Rattle.row.specs.Bits.{hasBit, onlySite, otherSites};
+ghost use Rattle.bits.specs.Bits.{hasBit, onlySite, otherSites};
 
 // The set of one site.
 pub fn only_site(site: usize) -> usize

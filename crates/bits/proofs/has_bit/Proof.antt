@@ -1,11 +1,11 @@
 use borrow.Author.Needs.{needs}
 use lib.Pow.{pow-pos}
-use Rattle.row.specs.Bits.{onlySite, hasBit}
-use Rattle.row.proofs.bits.has_bit.Statement.{statement}
-use Rattle.row.proofs.bits.has_bit.Tie as tie
-use Rattle.row.proofs.bits.has_bit.Reads as reads
-use Rattle.row.proofs.bits.has_bit.Lts as lts
-use Rattle.row.proofs.bits.only_site.Reads as only-site-reads
+use Rattle.bits.specs.Bits.{onlySite, hasBit}
+use Rattle.bits.proofs.has_bit.Statement.{statement}
+use Rattle.bits.proofs.has_bit.Tie as tie
+use Rattle.bits.proofs.has_bit.Reads as reads
+use Rattle.bits.proofs.has_bit.Lts as lts
+use Rattle.bits.proofs.only_site.Reads as only-site-reads
 
 only-site-requires : tie.Need-only-site-requires
 only-site-requires c κs = search needs

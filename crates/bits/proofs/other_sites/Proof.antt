@@ -1,13 +1,13 @@
 use borrow.Author.Needs.{needs}
 use native.Mathlib.Omega.{arith}
 use lib.Pow.{pow-pos}
-use Rattle.row.specs.Bits.{onlySite, otherSites}
-use Rattle.row.specs.laws.BitLaws.{one-of}
-use Rattle.row.proofs.bits.other_sites.Statement.{statement}
-use Rattle.row.proofs.bits.other_sites.Tie as tie
-use Rattle.row.proofs.bits.other_sites.Reads as reads
-use Rattle.row.proofs.bits.other_sites.Lts as lts
-use Rattle.row.proofs.bits.only_site.Reads as only-site-reads
+use Rattle.bits.specs.Bits.{onlySite, otherSites}
+use Rattle.bits.specs.laws.BitLaws.{one-of}
+use Rattle.bits.proofs.other_sites.Statement.{statement}
+use Rattle.bits.proofs.other_sites.Tie as tie
+use Rattle.bits.proofs.other_sites.Reads as reads
+use Rattle.bits.proofs.other_sites.Lts as lts
+use Rattle.bits.proofs.only_site.Reads as only-site-reads
 
 only-site-requires : tie.Need-only-site-requires
 only-site-requires c κs = search needs
