@@ -1,5 +1,5 @@
 #!/usr/bin/env bash
-# The library from C: the headers, their readers and the examples, built strictly and run. Wants target/staticlib/libquorum.a.
+# The library from C: the headers, their readers, the cases around every number and the examples, built strictly and run. Wants target/staticlib/libquorum.a.
 set -euo pipefail
 cd "$(dirname "$0")/.."
 strict=(-Wall -Wextra -Werror -pedantic -Iinclude)
@@ -11,8 +11,10 @@ fail() {
     exit 1
 }
 
-build() { # FILE: target/NAME from the C file
-    cc -std=c99 -O2 "${strict[@]}" "$1" target/staticlib/libquorum.a -o "target/$(basename "$1" .c)"
+build() { # NAME FILES: target/NAME from the C files
+    local name=$1
+    shift
+    cc -std=c99 -O2 "${strict[@]}" "$@" target/staticlib/libquorum.a -o "target/$name"
 }
 
 status() { # WANTED COMMAND ..: its exit status; what it prints is in $work/got
@@ -27,10 +29,12 @@ for header in include/*.h; do
     c++ "${strict[@]}" -fsyntax-only -x c++ "$header"
 done
 c++ "${strict[@]}" -fsyntax-only -x c++ tests/readers.c
-build tests/readers.c
+build readers tests/readers.c
 target/readers
+build cases tests/cases/*.c
+target/cases
 
-build examples/play_day.c
+build play_day examples/play_day.c
 for list in '' examples/m3.bin; do
     status 0 target/play_day ${list:+"$list"}
     cmp "$work/got" crates/player/stdout
@@ -48,7 +52,7 @@ status 2 target/play_day "$work/missing"
 status 2 target/play_day "$work"
 echo "C: play_day prints every vector's report; 0, 1 ($refused lists) and 2 as its exit status"
 
-build examples/club.c
+build club examples/club.c
 seeds=300
 committed=0
 for seed in $(seq "$seeds"); do

@@ -1,5 +1,5 @@
 // The days marked M, each by its whole report. n = 3, C = A = 2, all willing unless said.
-use case_line::day;
+use crate::day::day;
 
 pub fn cases() {
     accepted();

@@ -1,5 +1,5 @@
 // Days where a builder is tempted, and whole days to commit and abort, each by its whole report.
-use case_line::day;
+use crate::day::day;
 
 pub fn cases() {
     ends();

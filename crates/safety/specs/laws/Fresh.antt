@@ -47,7 +47,7 @@ unfolding validWorld zeroWorld sizesNumber
 zero-invalid = refl
 
 -- sixteen blank sites
-fresh-length : (k : ℕ) → length (freshSites k) ≡ 16
+pub fresh-length : (k : ℕ) → length (freshSites k) ≡ 16
 unfolding freshSites downSites
 fresh-length zero = length-replicate 16 (blankSite false)
 fresh-length (suc k) = length-set (freshSites k) k (blankSite true) ∙ fresh-length k

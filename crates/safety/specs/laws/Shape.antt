@@ -1,13 +1,13 @@
 -- The shape of worlds: sixteen sites with two vectors of sixteen codes, from the maker on.
-use Prim.Native.Nat.{ℕ, zero, suc, _≤_, _<_}
+use Prim.Native.Nat.{ℕ, _<_}
 use mathlib.Core.Bool.{Bool, true, false}
 use mathlib.Core.List.{List}
-use mathlib.Core.Path.{_≡_, refl, sym, subst, _∙_}
+use mathlib.Core.Path.{_≡_, refl, _∙_}
 use native.Mathlib.Omega.{arith}
 use lib.Dec.{eqb}
-use lib.ListN.{length, getD, length-set, getD-replicate}
+use lib.ListN.{length, length-set}
 use borrow.Author.Tests.{eqb-true}
-use Rattle.choice.specs.laws.ChoiceLaws.{pick-ind, set-ind}
+use Rattle.choice.specs.laws.ChoiceLaws.{pick-ind}
 use Rattle.vector.specs.laws.VectorLaws.{merge-length}
 use Rattle.site.specs.declared.Group.{Group}
 use Rattle.site.specs.declared.Group.the-variants as Group·
@@ -19,10 +19,11 @@ use Rattle.site.specs.declared.AbortQuorum.{AbortQuorum}
 use Rattle.rules.specs.Rules.{Move, hear, keptVector}
 use Rattle.world.specs.declared.World.{World}
 use Rattle.world.specs.Sizes.{sizesNumber}
-use Rattle.world.specs.Worlds.{downSites, zeroWorld, freshSites, freshWorld, siteOf, withSite, withRows}
+use Rattle.world.specs.Worlds.{zeroWorld, freshSites, freshWorld, siteOf, withSite, withRows}
 use Rattle.play.specs.Calls.{Call, refuse, enterSilent, enterRow}
 use Rattle.play.specs.Commands.{oneCommand}
 use Rattle.safety.specs.Claims.{Shaped}
+use Rattle.safety.specs.laws.Fresh.{newWorld, fresh-length, fresh-blank}
 use Rattle.safety.specs.laws.View.{Granted, Seen, as-refused, as-silent, as-row}
 use Rattle.safety.specs.laws.ViewLaws.{view}
 use Rattle.world.specs.laws.SizesLaws.{sized}
@@ -46,35 +47,14 @@ long-blank : (b : Bool) → Long (blankSite b)
 unfolding blankSite zeroVector
 long-blank b = record { codes = refl; joined = refl }
 
-fresh-length : (k : ℕ) → length (freshSites k) ≡ 16
-unfolding freshSites downSites
-fresh-length zero = refl
-fresh-length (suc k) = simp length-set (fresh-length k)
-
-long-fresh : (k : ℕ) → k ≤ 16 → (j : ℕ) → j < 16 → Long (getD (freshSites k) j (blankSite false))
-unfolding freshSites downSites
-long-fresh zero h j l =
-    subst Long (sym (getD-replicate 16 j (blankSite false) (blankSite false) l)) (long-blank false)
-long-fresh (suc k) h j l =
-    set-ind Long (freshSites k) k j (blankSite true) (blankSite false) (rw fresh-length (omega arith)) (λ _. long-blank true)
-    (λ _. long-fresh k (omega arith) j l)
-
 pub shaped-fresh : (n : ℕ) (c : CommitQuorum) (a : AbortQuorum) (willing : ℕ) → Shaped (freshWorld n c a willing)
-unfolding freshWorld zeroWorld siteOf freshSites
+unfolding freshWorld newWorld zeroWorld siteOf freshSites
 shaped-fresh n c a willing =
-    let made : World =
-    record {
-      sites = freshSites n;
-      n = n;
-      commit = c;
-      abort = a;
-      willing = willing;
-      rows = 0;
-    } in
-    pick-ind Shaped (eqb (sizesNumber n c a willing) 0) made zeroWorld
-    (λ e. shaped-by made (fresh-length n)
-    (long-fresh n (sized n c a willing (eqb-true (sizesNumber n c a willing) 0 e) .high)))
-    (λ _. shaped-by zeroWorld (fresh-length 0) (long-fresh 0 (omega arith)))
+    pick-ind Shaped (eqb (sizesNumber n c a willing) 0) (newWorld n c a willing) zeroWorld
+    (λ e. shaped-by (newWorld n c a willing) (fresh-length n)
+    (λ j. fresh-blank Long (long-blank true) (long-blank false) n j
+    (sized n c a willing (eqb-true (sizesNumber n c a willing) 0 e) .high)))
+    (λ _. shaped-by zeroWorld (fresh-length 0) (λ j. fresh-blank Long (long-blank true) (long-blank false) 0 j (omega arith)))
 
 -- the rules
 

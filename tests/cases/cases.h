@@ -1,0 +1,63 @@
+/* Cases just inside and just outside of every number, as tables: what the tables share.
+ *
+ * What a case must give is worked out by hand from document 01, and it is played through the C functions. A refused call must leave every buffer
+ * as it was. A difference is told with the case's name, and ends the program.
+ */
+#ifndef CASES_H
+#define CASES_H
+
+#include "../../include/quorum_read.h"
+
+/* One for each file. */
+void list_cases(void);
+void command_cases(void);
+void row_cases(void);
+void world_cases(void);
+void report_cases(void);
+
+/* The case that is played from here on; and what was got of it. */
+void begin(const char *name);
+void expect(const char *what, uint64_t got, uint64_t wanted);
+
+#define COUNT(table) (sizeof(table) / sizeof(table)[0])
+
+/* Bytes written in a table, and their length. */
+#define BYTES(...) (const uint8_t[]){__VA_ARGS__}, sizeof((const uint8_t[]){__VA_ARGS__})
+
+/* What a world has other than a fresh one of three sites, C = A = 2, all willing: a number at a place of its bytes, low byte first. */
+struct change {
+    unsigned at, bytes, value;
+};
+
+/* At most so many; the others are 0 and change nothing. */
+#define CHANGES 9
+
+#define SITES(n) {1, 1, n}
+#define COMMIT_QUORUM(c) {2, 2, c}
+#define ABORT_QUORUM(a) {4, 2, a}
+#define WILLING(bits) {6, 2, bits}
+#define ROWS(count) {8, 2, count}
+#define OF_SITE(site, at, value) {16 + 40 * (site) + (at), 1, value}
+#define DOWN(site) OF_SITE(site, 0, 0)
+#define UP(site) OF_SITE(site, 0, 1)
+#define PREPARED(site) OF_SITE(site, 2, 1)
+#define GROUP(site, record) OF_SITE(site, 3, record)
+#define OUTCOME(site, record) OF_SITE(site, 4, record)
+#define CODE(site, of, code) OF_SITE(site, 8 + (of), code)
+#define GROUP_CODE(site, of, code) OF_SITE(site, 24 + (of), code)
+#define ALL_ZERO {1, QC_WORLD_BYTES - 1, 0}
+
+void make_world(uint8_t *world, const struct change *changes);
+
+/* One command of a list; for one that is accepted, the place after it. */
+struct command {
+    const uint8_t *list;
+    size_t length, at;
+    unsigned answer;
+    uint64_t place;
+};
+
+/* Plays the command in the world with these changes, and a store of this length: the bytes of a row 0, then zeros. */
+void expect_command(const struct command *command, const struct change *changes, const uint8_t *row, size_t store_length);
+
+#endif

@@ -1,0 +1,140 @@
+/* Numbers 1 to 7, 15 and 16 of a whole list. */
+#include <string.h>
+
+#include "cases.h"
+
+/* Three sites, C = A = 2, all willing. */
+#define HEADER 3, 2, 2, 7, 0
+
+static uint8_t store[QC_STORE_BYTES];
+static uint8_t world[QC_WORLD_BYTES];
+static uint8_t result[QC_RESULT_BYTES];
+
+struct list_case {
+    const char *name;
+    const uint8_t *list;
+    size_t length;
+    unsigned answer, events, place;
+};
+
+static const struct list_case sizes[] = {
+    {"2 four bytes", BYTES(3, 2, 2, 7), 2, 0, 0},
+    {"2 five bytes pass", BYTES(HEADER), 0, 0, 5},
+    {"3 n of 0", BYTES(0, 2, 2, 0, 0), 3, 0, 0},
+    {"3 n of 2", BYTES(2, 2, 2, 0, 0), 3, 0, 0},
+    {"3 n of 3 passes", BYTES(3, 2, 2, 0, 0), 0, 0, 5},
+    {"3 n of 16 passes", BYTES(16, 15, 15, 0, 0), 0, 0, 5},
+    {"3 n of 17", BYTES(17, 15, 15, 0, 0), 3, 0, 0},
+    {"3 n of 255", BYTES(255, 15, 15, 0, 0), 3, 0, 0},
+    {"4 n 4, C 2, A 2", BYTES(4, 2, 2, 0, 0), 4, 0, 0},
+    {"4 n 4, C 2, A 3 passes", BYTES(4, 2, 3, 0, 0), 0, 0, 5},
+    {"4 n 4, C 3, A 2 passes", BYTES(4, 3, 2, 0, 0), 0, 0, 5},
+    {"4 n 4, C 1, A 3", BYTES(4, 1, 3, 0, 0), 4, 0, 0},
+    {"4 n 4, C 3, A 1", BYTES(4, 3, 1, 0, 0), 4, 0, 0},
+    {"4 n 16, C 8, A 8", BYTES(16, 8, 8, 0, 0), 4, 0, 0},
+    {"4 n 16, C 8, A 9 passes", BYTES(16, 8, 9, 0, 0), 0, 0, 5},
+    {"4 C equal to n", BYTES(4, 4, 3, 0, 0), 4, 0, 0},
+    {"4 A equal to n", BYTES(4, 3, 4, 0, 0), 4, 0, 0},
+    {"4 C and A of n - 1 pass", BYTES(4, 3, 3, 0, 0), 0, 0, 5},
+    {"4 C of 16 in 16", BYTES(16, 16, 15, 0, 0), 4, 0, 0},
+    {"4 A of 16 in 16", BYTES(16, 15, 16, 0, 0), 4, 0, 0},
+    {"5 willing bit at n", BYTES(3, 2, 2, 8, 0), 5, 0, 0},
+    {"5 willing bit at n - 1 passes", BYTES(3, 2, 2, 4, 0), 0, 0, 5},
+    {"5 willing bit 8 of 8 sites", BYTES(8, 5, 5, 0, 1), 5, 0, 0},
+    {"5 willing bit 8 of 9 sites passes", BYTES(9, 5, 5, 0, 1), 0, 0, 5},
+    {"5 willing bit 15 of 15 sites", BYTES(15, 8, 8, 0, 0x80), 5, 0, 0},
+    {"5 all sixteen willing pass", BYTES(16, 15, 15, 0xff, 0xff), 0, 0, 5},
+    {"3 before 4 and 5", BYTES(2, 2, 2, 8, 0), 3, 0, 0},
+    {"4 before 5", BYTES(3, 3, 2, 8, 0), 4, 0, 0},
+    {"5 before 6", BYTES(3, 2, 2, 8, 0, 0), 5, 0, 0},
+};
+
+static const struct list_case commands[] = {
+    {"6 command 0", BYTES(HEADER, 0), 6, 0, 5},
+    {"6 command 6", BYTES(HEADER, 6), 6, 0, 5},
+    {"6 command 255", BYTES(HEADER, 255), 6, 0, 5},
+    {"6 command 6 after START", BYTES(HEADER, 1, 6, 0), 6, 1, 6},
+    {"6 command 1 is read", BYTES(HEADER, 1), 0, 1, 6},
+    {"6 command 2 is read", BYTES(HEADER, 1, 2, 0, 0, 1), 0, 2, 10},
+    {"6 command 3 is read", BYTES(HEADER, 3, 0), 0, 1, 7},
+    {"6 command 4 is read", BYTES(HEADER, 4, 0), 0, 1, 7},
+    {"6 command 5 is read", BYTES(HEADER, 4, 0, 5, 0), 0, 2, 9},
+    {"7 DELIVER with no operand byte", BYTES(HEADER, 2), 7, 0, 5},
+    {"7 DELIVER cut after one", BYTES(HEADER, 2, 0), 7, 0, 5},
+    {"7 DELIVER cut after two", BYTES(HEADER, 2, 0, 0), 7, 0, 5},
+    {"7 TIMEOUT cut", BYTES(HEADER, 3), 7, 0, 5},
+    {"7 CRASH cut", BYTES(HEADER, 4), 7, 0, 5},
+    {"7 RECOVER cut", BYTES(HEADER, 5), 7, 0, 5},
+    {"7 cut after START", BYTES(HEADER, 1, 2, 0), 7, 1, 6},
+    {"7 DELIVER whole, to 9", BYTES(HEADER, 2, 0, 0, 1), 9, 0, 5},
+    {"7 RECOVER whole, to 13", BYTES(HEADER, 5, 1), 13, 0, 5},
+    {"7 START has no operand", BYTES(HEADER, 1), 0, 1, 6},
+};
+
+static void play(const struct list_case *one)
+{
+    begin(one->name);
+    expect("number", qc_play_list(one->list, one->length, store, sizeof store, world, sizeof world, result, sizeof result), one->answer);
+    expect("events", qc_result_events(result), one->events);
+    expect("place", qc_result_place(result), one->place);
+}
+
+static void play_all(const struct list_case *table, size_t count)
+{
+    size_t i;
+    for (i = 0; i < count; i++)
+        play(&table[i]);
+}
+
+/* START, then CRASH 1 and RECOVER 1 in turn: 1 byte and 8,190 times 4, and the last crash. */
+static void lengths(void)
+{
+    static uint8_t list[QC_LIST_BYTES + 1] = {HEADER, QC_START};
+    const struct list_case none = {"2 no byte", list, 0, 2, 0, 0};
+    const struct list_case longest = {"1 32,768 bytes pass", list, QC_LIST_BYTES, 0, 16382, QC_LIST_BYTES};
+    const struct list_case longer = {"1 32,769 bytes", list, QC_LIST_BYTES + 1, 1, 0, 0};
+    size_t at;
+    for (at = 6; at < QC_LIST_BYTES; at += 2) {
+        list[at] = at % 4 == 2 ? QC_CRASH : QC_RECOVER;
+        list[at + 1] = 1;
+    }
+    play(&none);
+    play(&longest);
+    play(&longer);
+}
+
+/* n 4, C = A = 3: TIMEOUT 3 again and again. The first writes abort, each later one sends the outcome. */
+static void rows(void)
+{
+    static uint8_t list[QC_HEADER_BYTES + 2 * (QC_ROWS + 2)] = {4, 3, 3, 3, 0};
+    const struct list_case last = {"15 row 1,023 as the 1,024th passes", list, 2055, 0, 1025, 2055};
+    const struct list_case more = {"15 row 1,024 as the 1,025th", list, 2057, 15, 1025, 2055};
+    memset(list + QC_HEADER_BYTES, QC_TIMEOUT, sizeof list - QC_HEADER_BYTES);
+    play(&last);
+    play(&more);
+}
+
+/* The store's length comes before the list's. */
+static void stores(void)
+{
+    static uint8_t before[QC_STORE_BYTES];
+    static const uint8_t list[] = {HEADER, QC_START};
+    memset(store, 9, sizeof store);
+    memset(before, 9, sizeof before);
+    begin("16 a store of 20,479 bytes");
+    expect("number", qc_play_list(list, sizeof list, store, QC_STORE_BYTES - 1, world, sizeof world, result, sizeof result), 16);
+    expect("refused, store changed", memcmp(store, before, sizeof store) != 0, 0);
+    begin("16 before 2");
+    expect("number", qc_play_list(list, 0, store, QC_STORE_BYTES - 1, world, sizeof world, result, sizeof result), 16);
+    begin("16 a store of 20,480 bytes passes");
+    expect("number", qc_play_list(list, sizeof list, store, QC_STORE_BYTES, world, sizeof world, result, sizeof result), 0);
+}
+
+void list_cases(void)
+{
+    lengths();
+    play_all(sizes, COUNT(sizes));
+    play_all(commands, COUNT(commands));
+    rows();
+    stores();
+}
