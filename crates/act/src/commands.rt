@@ -92,7 +92,7 @@ fn deliver_row(
     requires { ⌜ Ready head (now store) × (own < head .n) ⌝ }
     ensures { λ r. ⌜ Acts head own site r (now (store .exit)) (λ w. deliverRow w (now (store .entry)) at next row own) ⌝ }
 {
-    if row::row_known(head.n, row) {
+    if known::row_known(head.n, row) {
         if bits::has_bit(row.destinations, own) {
             if site.up {
                 let n = head.n;

@@ -26,8 +26,8 @@ pub fn site_at(bytes: &[u8], at: usize) -> Site
     requires { ⌜ at + 40 ≤ length (now bytes) ⌝ }
     ensures { λ r. ⌜ r ≡ siteAt (now (bytes .entry)) at ⌝ }
 {
-    let codes = row::get_codes(bytes, at + 8);
-    let joined = row::get_codes(bytes, at + 24);
+    let codes = code_bytes::get_codes(bytes, at + 8);
+    let joined = code_bytes::get_codes(bytes, at + 24);
     Site {
         up: bytes[at] == 1,
         coordinator: bytes[at + 1] == 1,

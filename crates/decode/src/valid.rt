@@ -16,12 +16,12 @@ fn valid_sites_at(bytes: &[u8], n: usize) -> bool
     requires { ⌜ (n ≤ 16) × (656 ≤ length (now bytes)) × (n ≡ getD (now bytes) 1 0) ⌝ }
     ensures { λ r. ⌜ r ≡ validSites n (worldAt (now (bytes .entry))) ⌝ }
 {
-    let limits = vector::valid_limits(n);
+    let limits = validity::valid_limits(n);
     let mut valid = true;
     let mut k = 0;
     while k < n {
         let site = site_at(bytes, site_place(k));
-        valid = world::valid_through(valid, k, limits, site);
+        valid = validity::valid_through(valid, k, limits, site);
         k += 1;
     }
     valid
@@ -35,7 +35,7 @@ pub fn valid_at(bytes: &[u8]) -> bool
     let n = wide(bytes[1]);
     let commit = CommitQuorum(word_at(bytes, 2));
     let abort = AbortQuorum(word_at(bytes, 4));
-    if world::valid_head(n, commit, abort, word_at(bytes, 6), word_at(bytes, 8)) {
+    if validity::valid_head(n, commit, abort, word_at(bytes, 6), word_at(bytes, 8)) {
         return valid_sites_at(bytes, n);
     }
     false

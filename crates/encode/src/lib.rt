@@ -64,9 +64,9 @@ fn put_site(bytes: &mut [u8], at: usize, site: Site)
 {
     put_flags(bytes, at, site);
     let codes = site.codes;
-    row::put_codes(bytes, at + 8, codes);
+    code_bytes::put_codes(bytes, at + 8, codes);
     let joined = site.joined;
-    row::put_codes(bytes, at + 24, joined);
+    code_bytes::put_codes(bytes, at + 24, joined);
 }
 
 fn put_sites(bytes: &mut [u8], world: World)

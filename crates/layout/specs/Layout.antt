@@ -5,7 +5,7 @@ use mathlib.Core.List.{List}
 use lib.Dec.{leb, eqb}
 use lib.ListN.{length, getD, set}
 use Rattle.choice.specs.Choice.{pick, both}
-use Rattle.row.specs.Rows.{putCodes, codesFrom}
+use Rattle.code_bytes.specs.CodeBytes.{putCodes, codesFrom}
 use Rattle.site.specs.declared.Group.{Group}
 use Rattle.site.specs.declared.Group.the-variants as Group·
 use Rattle.site.specs.declared.Outcome.{Outcome}

@@ -3,10 +3,10 @@ ghost use mathlib.Core.Path.{_≡_};
 ghost use Prim.Native.Nat.{_<_, _≤_};
 ghost use Rattle.rules.specs.Rules.{deliver};
 use crate::Participant;
+use deliveries::adopt;
+use deliveries::answer;
 use row::Row;
 use rules::Step;
-use rules::adopt;
-use rules::answer;
 
 impl Participant {
     pub fn deliver(mut self, willing: bool, row: Row) -> Step

@@ -5,14 +5,14 @@ ghost use Rattle.rules.specs.Rules.{timeout};
 use crate::Participant;
 use rules::Step;
 use rules::silent;
-use rules::take_over;
-use rules::timeout_in_abort_group;
-use rules::timeout_in_commit_group;
-use rules::timeout_prepared;
 use site::AbortQuorum;
 use site::CommitQuorum;
 use site::Outcome;
 use site::State;
+use timeouts::take_over;
+use timeouts::timeout_in_abort_group;
+use timeouts::timeout_in_commit_group;
+use timeouts::timeout_prepared;
 
 impl Participant {
     pub fn timeout(mut self, commit: CommitQuorum, abort: AbortQuorum) -> Step

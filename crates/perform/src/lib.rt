@@ -42,7 +42,7 @@ pub fn one_command(world: World, store: &mut [u8], list: &[u8], at: usize) -> Pl
             place: at,
         };
     }
-    if world.valid() {
+    if validity::valid_world(world) {
         return play_command(world, store, list, at);
     }
     Played {

@@ -16,7 +16,7 @@ use world::World;
 fn report_valid(world: World, events: usize, number: usize, place: usize) -> bool
     ensures { λ r. ⌜ r ≡ reportValid world events number place ⌝ }
 {
-    if !world.valid() {
+    if !validity::valid_world(world) {
         return false;
     }
     if World::LIST_BYTES < events {

@@ -6,6 +6,7 @@ use mathlib.Core.List.{List}
 use lib.Dec.{ltb, leb}
 use lib.ListN.{getD, set, replicate}
 use Rattle.choice.specs.Choice.{both}
+use Rattle.code_bytes.specs.CodeBytes.{putCodes, codesFrom}
 use Rattle.row.specs.declared.Row.{Row}
 
 -- no row: kind 0
@@ -22,11 +23,6 @@ putHead store at r =
     set (set (set (set store at (r .kind)) (at + 1) (r .sender % 256)) (at + 2) (r .destinations % 256)) (at + 3)
     (r .destinations / 256 % 256)
 
--- the store with the first k codes written from a place on
-unfoldable pub putCodes : ℕ → List ℕ → ℕ → List ℕ → List ℕ
-putCodes zero store at codes = store
-putCodes (suc k) store at codes = set (putCodes k store at codes) (at + k) (getD codes k 0)
-
 -- the store with the row written at a place
 unfoldable pub putRowAt : List ℕ → ℕ → Row → List ℕ
 putRowAt store at r = putCodes 16 (putHead store at r) (at + 4) (r .codes)
@@ -34,11 +30,6 @@ putRowAt store at r = putCodes 16 (putHead store at r) (at + 4) (r .codes)
 -- the store with the row written as row k
 unfoldable pub putRow : List ℕ → ℕ → Row → List ℕ
 putRow store k r = putRowAt store (rowPlace k) r
-
--- sixteen codes, the first k of them read from a place on
-unfoldable pub codesFrom : ℕ → List ℕ → ℕ → List ℕ
-codesFrom zero store at = replicate 16 0
-codesFrom (suc k) store at = set (codesFrom k store at) k (getD store (at + k) 0)
 
 -- the row that lies at a place
 unfoldable pub rowAt : List ℕ → ℕ → Row

@@ -1,12 +1,8 @@
 // A row, and its twenty bytes in the store.
-mod known;
 mod store;
 
-pub use known::row_known;
-pub use store::get_codes;
 pub use store::get_row;
 pub use store::no_row;
-pub use store::put_codes;
 pub use store::put_row;
 
 // Kind, sender, destinations as 16 bits, and the sender's vector after the step. Kind 0: no row.

@@ -2,8 +2,10 @@
 ghost use mathlib.Core.Path.{_≡_};
 ghost use Prim.Native.Nat.{_+_, _<_, _≤_};
 ghost use lib.ListN.{length};
-ghost use Rattle.row.specs.Rows.{noRow, putHead, putCodes, putRow, getRow, rowPlace, codesFrom};
+ghost use Rattle.row.specs.Rows.{noRow, putHead, putRow, getRow, rowPlace};
 use crate::Row;
+use code_bytes::get_codes;
+use code_bytes::put_codes;
 use word::wide;
 
 pub fn no_row() -> Row
@@ -35,18 +37,6 @@ fn put_head(store: &mut [u8], at: usize, row: Row)
     store[at + 3] = (row.destinations / 256 % 256) as u8;
 }
 
-// Sixteen codes written from a place on.
-pub fn put_codes(store: &mut [u8], at: usize, codes: [u8; 16])
-    requires { ⌜ at + 16 ≤ length (now store) ⌝ }
-    ensures { λ _. ⌜ now (store .exit) ≡ putCodes 16 (now (store .entry)) at codes ⌝ }
-{
-    let mut k = 0;
-    while k < 16 {
-        store[at + k] = codes[k];
-        k += 1;
-    }
-}
-
 // The row written as row k.
 pub fn put_row(store: &mut [u8], k: usize, row: Row)
     requires { ⌜ (k < 1024) × (20480 ≤ length (now store)) ⌝ }
@@ -56,20 +46,6 @@ pub fn put_row(store: &mut [u8], k: usize, row: Row)
     put_head(store, at, row);
     let codes = row.codes;
     put_codes(store, at + 4, codes);
-}
-
-// Sixteen codes read from a place on.
-pub fn get_codes(store: &[u8], at: usize) -> [u8; 16]
-    requires { ⌜ at + 16 ≤ length (now store) ⌝ }
-    ensures { λ r. ⌜ r ≡ codesFrom 16 (now (store .entry)) at ⌝ }
-{
-    let mut codes = [0; 16];
-    let mut k = 0;
-    while k < 16 {
-        codes[k] = store[at + k];
-        k += 1;
-    }
-    codes
 }
 
 // Row k of the store.

@@ -1,12 +1,9 @@
-// The world of a competition: its maker and the check behind 17.
+// The world of a competition: its sizes and its maker.
 mod fresh;
 mod parts;
 mod sizes;
-mod valid;
 
 pub use sizes::sizes_number;
-pub use valid::valid_head;
-pub use valid::valid_through;
 
 pub struct World {
     pub sites: [site::Site; World::SITES],

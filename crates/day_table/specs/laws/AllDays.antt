@@ -3,7 +3,8 @@ use mathlib.Core.Path.{_≡_, refl}
 use Rattle.vector.specs.Codes.{level, isOutcome}
 use Rattle.vector.specs.Vector.{mergeEntry, merge, entryWeight, weigh, siteWeight, count, firstOutcome, lowestOutcome, validEntry, validEntries, validVector}
 use Rattle.bits.specs.Bits.{hasBit, onlySite, otherSites}
-use Rattle.row.specs.Rows.{noRow, rowPlace, putHead, putCodes, putRowAt, putRow, codesFrom, rowAt, getRow, codesKnown, rowKnown}
+use Rattle.row.specs.Rows.{noRow, rowPlace, putHead, putRowAt, putRow, rowAt, getRow, codesKnown, rowKnown}
+use Rattle.code_bytes.specs.CodeBytes.{putCodes, codesFrom}
 use Rattle.site.specs.State.{stateBy, stateOf, codeOf, isTerminated, isActive, commitReached, abortReached}
 use Rattle.site.specs.Fields.{zeroVector, blankSite, withUp, withCoordinator, withPrepared, withGroup, withOutcome, withCodes}
 use Rattle.site.specs.Records.{groupOf, outcomeOf, recordCode, withOwn, writePrepare, joinGroup, writeOutcome}

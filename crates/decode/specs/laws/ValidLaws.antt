@@ -14,7 +14,7 @@ use Rattle.world.specs.Sizes.{maxRows, sizesNumber}
 use Rattle.world.specs.Worlds.{siteOf}
 use Rattle.world.specs.Valid.{validSite, validSites, validWorld}
 use Rattle.world.specs.laws.SizesLaws.{sized}
-use Rattle.world.specs.laws.LimitLaws.{validWorld-by}
+use Rattle.validity.specs.laws.LimitLaws.{validWorld-by}
 use Rattle.layout.specs.Numbers.{wordAt}
 use Rattle.layout.specs.Layout.{sitePlace, siteAt, worldAt}
 use Rattle.layout.specs.laws.LayoutLaws.{site-of}

@@ -5,7 +5,7 @@ use Rattle.encode.proofs.put_site.Tie as tie
 use Rattle.encode.proofs.put_site.Reads as reads
 use Rattle.encode.proofs.put_site.Lts as lts
 use Rattle.encode.proofs.put_flags.Reads as put-flags-reads
-use Rattle.row.proofs.put_codes.Reads as put-codes-reads
+use Rattle.code_bytes.proofs.put_codes.Reads as put-codes-reads
 
 put-flags-requires : tie.Need-put-flags-requires
 put-flags-requires c κs = search needs

@@ -13,8 +13,8 @@ use borrow.Author.Tests.{leb-true, le-leb}
 use Rattle.choice.specs.Choice.{both}
 use Rattle.choice.specs.laws.ChoiceLaws.{both-on, both-first, both-second}
 use Rattle.choice.specs.laws.Cases.{by-equal}
-use Rattle.row.specs.Rows.{putCodes, codesFrom}
-use Rattle.row.specs.laws.RowLaws.{putCodes-length, putCodes-else, putCodes-at, codesFrom-length, codesFrom-at, codesFrom-same}
+use Rattle.code_bytes.specs.CodeBytes.{putCodes, codesFrom}
+use Rattle.code_bytes.specs.laws.CodeBytesLaws.{putCodes-length, putCodes-else, putCodes-at, codesFrom-length, codesFrom-at, codesFrom-same}
 use Rattle.site.specs.declared.Group.{Group}
 use Rattle.site.specs.declared.Group.the-variants as Group·
 use Rattle.site.specs.declared.Outcome.{Outcome}

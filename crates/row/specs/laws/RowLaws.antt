@@ -1,67 +1,17 @@
 -- Laws of rows in the store: what is written reads back, and nothing else changes.
-use Prim.Native.Nat.{ℕ, zero, suc, _+_, _*_, _/_, _%_, _≤_, _<_}
+use Prim.Native.Nat.{ℕ, _+_, _*_, _/_, _%_, _≤_, _<_}
 use mathlib.Core.List.{List}
 use mathlib.Core.Logic.{_≢_}
-use mathlib.Core.Path.{_≡_, refl, sym, _∙_}
+use mathlib.Core.Path.{_≡_, sym, _∙_}
 use native.Mathlib.Nat.{add-zero, add-assoc, div-add-mod, div-lt-iff-lt-mul, mod-eq-of-lt}
 use native.Mathlib.Omega.{arith}
 use lib.ListN.{length, getD, set, length-set}
 use lib.Seq.{lt-length-set, getD-set-same, getD-set-other, ext-getD}
-use Rattle.choice.specs.laws.ChoiceLaws.{set-ind}
 use Rattle.row.specs.declared.Row.{Row}
-use Rattle.row.specs.Claims.{RowReadsBack, OtherRowsStay, Around, BytesAroundStay}
-use Rattle.row.specs.Rows.{rowPlace, putHead, putCodes, putRowAt, putRow, codesFrom, rowAt, getRow}
-
--- the codes written
-
-pub putCodes-length : (k : ℕ) (store : List ℕ) (at : ℕ) (codes : List ℕ) → length (putCodes k store at codes) ≡ length store
-unfolding putCodes
-putCodes-length zero store at codes = refl
-putCodes-length (suc k) store at codes = simp length-set (putCodes-length k store at codes)
-
-pub putCodes-else :
-    (k : ℕ) (store : List ℕ) (at : ℕ) (codes : List ℕ) (b : ℕ) → ((i : ℕ) → i < k → b ≡ at + i → ⊥) →
-    getD (putCodes k store at codes) b 0 ≡ getD store b 0
-unfolding putCodes
-putCodes-else zero store at codes b h = refl
-putCodes-else (suc k) store at codes b h =
-    getD-set-other (putCodes k store at codes) (at + k) b (getD codes k 0) 0 (h k (omega arith))
-    ∙ putCodes-else k store at codes b (λ i l. h i (omega arith))
-
-pub putCodes-at :
-    (k : ℕ) (store : List ℕ) (at : ℕ) (codes : List ℕ) (i : ℕ) → i < k → at + k ≤ length store →
-    getD (putCodes k store at codes) (at + i) 0 ≡ getD codes i 0
-unfolding putCodes
-putCodes-at zero store at codes i h room = absurd (omega arith)
-putCodes-at (suc k) store at codes i h room =
-    set-ind (λ x. x ≡ getD codes i 0) (putCodes k store at codes) (at + k) (at + i) (getD codes k 0) 0
-    (rw putCodes-length (omega arith))
-    (λ e. let q : i ≡ k = omega arith in rw q)
-    (λ e. let l : i < k = omega arith in putCodes-at k store at codes i l (omega arith))
-
--- the codes read
-
-pub codesFrom-length : (k : ℕ) (store : List ℕ) (at : ℕ) → length (codesFrom k store at) ≡ 16
-unfolding codesFrom
-codesFrom-length zero store at = refl
-codesFrom-length (suc k) store at = simp length-set (codesFrom-length k store at)
-
-pub codesFrom-at :
-    (k : ℕ) (store : List ℕ) (at i : ℕ) → i < k → k ≤ 16 → getD (codesFrom k store at) i 0 ≡ getD store (at + i) 0
-unfolding codesFrom
-codesFrom-at zero store at i h small = absurd (omega arith)
-codesFrom-at (suc k) store at i h small =
-    set-ind (λ x. x ≡ getD store (at + i) 0) (codesFrom k store at) k i (getD store (at + k) 0) 0
-    (rw codesFrom-length (omega arith))
-    (λ e. rw e)
-    (λ e. codesFrom-at k store at i (omega arith) (omega arith))
-
-pub codesFrom-same :
-    (k : ℕ) (s t : List ℕ) (at : ℕ) → ((i : ℕ) → i < k → getD s (at + i) 0 ≡ getD t (at + i) 0) →
-    codesFrom k s at ≡ codesFrom k t at
-unfolding codesFrom
-codesFrom-same zero s t at h = refl
-codesFrom-same (suc k) s t at h = rw (codesFrom-same k s t at (λ i l. h i (omega arith)), h k (omega arith))
+use Rattle.row.specs.Claims.{RowReadsBack, OtherRowsStay, BytesAroundStay}
+use Rattle.code_bytes.specs.CodeBytes.{codesFrom}
+use Rattle.code_bytes.specs.laws.CodeBytesLaws.{putCodes-length, putCodes-else, putCodes-at, codesFrom-length, codesFrom-at, codesFrom-same}
+use Rattle.row.specs.Rows.{rowPlace, putHead, putRowAt, putRow, rowAt, getRow}
 
 -- the head
 

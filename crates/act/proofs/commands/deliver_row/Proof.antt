@@ -14,7 +14,7 @@ use Rattle.act.proofs.commands.deliver_row.Lts as lts
 use Rattle.play.proofs.enter.Reads as enter-reads
 use Rattle.play.proofs.refused.Reads as refused-reads
 use Rattle.bits.proofs.has_bit.Reads as has-bit-reads
-use Rattle.row.proofs.row_known.Reads as row-known-reads
+use Rattle.known.proofs.row_known.Reads as row-known-reads
 use Rattle.participant.proofs.Participant.deliver.Reads as deliver-reads
 
 -- src/commands.rt:96:8

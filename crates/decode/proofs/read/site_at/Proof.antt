@@ -6,7 +6,7 @@ use Rattle.decode.proofs.read.site_at.Reads as reads
 use Rattle.decode.proofs.read.site_at.Lts as lts
 use Rattle.layout.proofs.group_of.Reads as group-of-reads
 use Rattle.layout.proofs.outcome_of.Reads as outcome-of-reads
-use Rattle.row.proofs.get_codes.Reads as get-codes-reads
+use Rattle.code_bytes.proofs.get_codes.Reads as get-codes-reads
 
 add-get-codes : tie.Need-add-get-codes
 add-get-codes c = search needs

@@ -7,7 +7,7 @@ use Rattle.decode.proofs.valid.valid_at.Lts as lts
 use Rattle.decode.proofs.read.word_at.Reads as word-at-reads
 use Rattle.decode.proofs.valid.valid_sites_at.Reads as valid-sites-at-reads
 use Rattle.word.proofs.wide.Reads as wide-reads
-use Rattle.world.proofs.valid_head.Reads as valid-head-reads
+use Rattle.validity.proofs.valid_head.Reads as valid-head-reads
 
 shared-slice-read-wide : tie.Need-shared-slice-read-wide
 shared-slice-read-wide c = search needs

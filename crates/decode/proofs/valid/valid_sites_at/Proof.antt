@@ -11,8 +11,8 @@ use Rattle.decode.proofs.valid.valid_sites_at.Reads as reads
 use Rattle.decode.proofs.valid.valid_sites_at.Lts as lts
 use Rattle.decode.proofs.read.site_at.Reads as site-at-reads
 use Rattle.layout.proofs.site_place.Reads as site-place-reads
-use Rattle.vector.proofs.valid_limits.Reads as valid-limits-reads
-use Rattle.world.proofs.valid_through.Reads as valid-through-reads
+use Rattle.validity.proofs.valid_limits.Reads as valid-limits-reads
+use Rattle.validity.proofs.valid_through.Reads as valid-through-reads
 
 abbrev Inv-loop : tie.InvT-loop
 Inv-loop bytes n limits valid₀ k₀ valid k = (k ≤ n) × (valid ≡ validSites k (worldAt bytes))

@@ -5,8 +5,8 @@ use Rattle.participant.proofs.Participant.deliver.Statement.{statement}
 use Rattle.participant.proofs.Participant.deliver.Tie as tie
 use Rattle.participant.proofs.Participant.deliver.Reads as reads
 use Rattle.participant.proofs.Participant.deliver.Lts as lts
-use Rattle.rules.proofs.adopt.Reads as adopt-reads
-use Rattle.rules.proofs.answer.Reads as answer-reads
+use Rattle.deliveries.proofs.adopt.Reads as adopt-reads
+use Rattle.deliveries.proofs.answer.Reads as answer-reads
 use Rattle.vector.proofs.merge.Reads as merge-reads
 
 merge-requires : tie.Need-merge-requires

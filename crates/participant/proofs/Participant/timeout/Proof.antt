@@ -8,10 +8,10 @@ use Rattle.participant.proofs.Participant.timeout.Reads as reads
 use Rattle.participant.proofs.Participant.timeout.Lts as lts
 use Rattle.rules.proofs.silent.Reads as silent-reads
 use Rattle.site.proofs.Site.state.Reads as state-reads
-use Rattle.rules.proofs.take_over.Reads as take-over-reads
-use Rattle.rules.proofs.timeout_in_abort_group.Reads as timeout-in-abort-group-reads
-use Rattle.rules.proofs.timeout_in_commit_group.Reads as timeout-in-commit-group-reads
-use Rattle.rules.proofs.timeout_prepared.Reads as timeout-prepared-reads
+use Rattle.timeouts.proofs.take_over.Reads as take-over-reads
+use Rattle.timeouts.proofs.timeout_in_abort_group.Reads as timeout-in-abort-group-reads
+use Rattle.timeouts.proofs.timeout_in_commit_group.Reads as timeout-in-commit-group-reads
+use Rattle.timeouts.proofs.timeout_prepared.Reads as timeout-prepared-reads
 use Rattle.site.proofs.Site.write_outcome.Reads as write-outcome-reads
 
 state-requires : tie.Need-state-requires

@@ -5,7 +5,7 @@ use Rattle.row.proofs.store.get_row.Statement.{statement}
 use Rattle.row.proofs.store.get_row.Tie as tie
 use Rattle.row.proofs.store.get_row.Reads as reads
 use Rattle.row.proofs.store.get_row.Lts as lts
-use Rattle.row.proofs.store.get_codes.Reads as get-codes-reads
+use Rattle.code_bytes.proofs.get_codes.Reads as get-codes-reads
 use Rattle.row.proofs.store.row_place.Reads as row-place-reads
 use Rattle.word.proofs.wide.Reads as wide-reads
 

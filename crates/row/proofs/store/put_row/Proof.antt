@@ -5,7 +5,7 @@ use Rattle.row.proofs.store.put_row.Statement.{statement}
 use Rattle.row.proofs.store.put_row.Tie as tie
 use Rattle.row.proofs.store.put_row.Reads as reads
 use Rattle.row.proofs.store.put_row.Lts as lts
-use Rattle.row.proofs.store.put_codes.Reads as put-codes-reads
+use Rattle.code_bytes.proofs.put_codes.Reads as put-codes-reads
 use Rattle.row.proofs.store.put_head.Reads as put-head-reads
 use Rattle.row.proofs.store.row_place.Reads as row-place-reads
 

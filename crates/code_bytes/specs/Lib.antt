@@ -1,0 +1,2 @@
+pub mod CodeBytes
+pub mod laws

@@ -1,0 +1,85 @@
+-- What 17 asks of a vector, said by limits: 5 below n, 0 from n up. They are made once for all vectors of a world.
+use Prim.Native.Nat.{ℕ, zero, suc, _≤_, _<_}
+use mathlib.Core.Bool.{Bool, true}
+use mathlib.Core.List.{List}
+use mathlib.Core.Path.{_≡_, refl, _∙_}
+use native.Mathlib.Omega.{arith}
+use lib.Dec.{ltb, leb, eqb}
+use lib.ListN.{length, getD, set, replicate, length-set, getD-replicate}
+use lib.Seq.{getD-set-same, getD-set-other}
+use borrow.Author.Tests.{lt-ltb, le-ltb, le-leb, lt-leb, eq-eqb, ne-eqb, ltb-true, ltb-false, leb-true}
+use Rattle.choice.specs.Choice.{pick, both}
+use Rattle.choice.specs.laws.ChoiceLaws.{both-first, both-second}
+use Rattle.choice.specs.laws.Cases.{by-test, by-equal}
+use Rattle.vector.specs.Vector.{validEntry, validEntries, validVector}
+
+-- the limits for n sites
+unfoldable pub limitsTo : ℕ → List ℕ
+limitsTo zero = replicate 16 0
+limitsTo (suc k) = set (limitsTo k) k 5
+
+-- the entries below k are within their limits
+unfoldable pub within : ℕ → List ℕ → List ℕ → Bool
+within zero limits v = true
+within (suc k) limits v = both (within k limits v) (leb (getD v k 0) (getD limits k 0))
+
+limitsTo-length : (n : ℕ) → length (limitsTo n) ≡ 16
+unfolding limitsTo
+limitsTo-length zero = refl
+limitsTo-length (suc k) = simp length-set (limitsTo-length k)
+
+zeros-at : (k : ℕ) → k < 16 → getD (limitsTo 0) k 0 ≡ 0
+unfolding limitsTo
+zeros-at k small = getD-replicate 16 k 0 0 small
+
+-- one site more makes no difference to another
+further : (k m : ℕ) → (k ≡ m → ⊥) → _≡_ {A = ℕ} (pick (ltb k m) 5 0) (pick (ltb k (suc m)) 5 0)
+further k m e =
+    by-test (ltb k m)
+    (λ t. let h : k < m = ltb-true k m t in rw (t, lt-ltb k (suc m) (omega arith)))
+    (λ t. let h : m ≤ k = ltb-false k m t in rw (t, le-ltb k (suc m) (omega arith)))
+
+limit-at : (n k : ℕ) → k < 16 → getD (limitsTo n) k 0 ≡ pick (ltb k n) 5 0
+unfolding limitsTo
+limit-at zero k small = rw (le-ltb k 0 (omega arith)) (zeros-at k small)
+limit-at (suc m) k small =
+    by-equal k m
+    (λ e. rw (e, lt-ltb m (suc m) (omega arith)) (getD-set-same (limitsTo m) m 5 0 (rw limitsTo-length (omega arith))))
+    (λ e. getD-set-other (limitsTo m) m k 5 0 e ∙ limit-at m k small ∙ further k m e)
+
+-- an entry is at most 0 where it is 0
+at-most-zero : (x : ℕ) → leb x 0 ≡ eqb x 0
+at-most-zero x =
+    by-equal x 0 (λ e. rw (le-leb x 0 (omega arith), eq-eqb x 0 e)) (λ e. rw (lt-leb x 0 (omega arith), ne-eqb x 0 e))
+
+entry-limit : (n k code : ℕ) → leb code (pick (ltb k n) 5 0) ≡ validEntry n k code
+unfolding validEntry
+entry-limit n k code = by-test (ltb k n) (λ e. rw e) (λ e. rw e (at-most-zero code))
+
+entries-within : (n k : ℕ) (v : List ℕ) → k ≤ 16 → within k (limitsTo n) v ≡ validEntries n k v
+unfolding within validEntries
+entries-within n zero v small = refl
+entries-within n (suc k) v small =
+    rw (entries-within n k v (omega arith), limit-at n k (omega arith), entry-limit n k (getD v k 0))
+
+-- WITHIN THE LIMITS is what 17 asks
+pub within-valid : (n : ℕ) (v : List ℕ) → within 16 (limitsTo n) v ≡ validVector n v
+unfolding validVector
+within-valid n v = entries-within n 16 v (omega arith)
+
+-- an entry within noughts is 0
+entries-zero : (k i : ℕ) (v : List ℕ) → k ≤ 16 → i < k → within k (limitsTo 0) v ≡ true → getD v i 0 ≡ 0
+unfolding within
+entries-zero zero i v small h e = absurd (omega arith)
+entries-zero (suc k) i v small h e =
+    by-equal i k
+    (λ q.
+    let z : getD v k 0 ≤ getD (limitsTo 0) k 0 =
+    leb-true _ _ (both-second (within k (limitsTo 0) v) (leb (getD v k 0) (getD (limitsTo 0) k 0)) e) in
+    rw q (omega (arith, z, zeros-at k (omega arith))))
+    (λ q.
+    entries-zero k i v (omega arith) (omega arith)
+    (both-first (within k (limitsTo 0) v) (leb (getD v k 0) (getD (limitsTo 0) k 0)) e))
+
+pub within-zeros : (v : List ℕ) (i : ℕ) → i < 16 → within 16 (limitsTo 0) v ≡ true → getD v i 0 ≡ 0
+within-zeros v i h e = entries-zero 16 i v (omega arith) h e
