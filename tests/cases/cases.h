@@ -1,7 +1,7 @@
 /* Cases just inside and just outside of every number, as tables: what the tables share.
  *
- * What a case must give is worked out by hand from document 01, and it is played through the C functions. A refused call must leave every buffer
- * as it was. A difference is told with the case's name, and ends the program.
+ * What a case must give is worked out by hand from document 01, and it is played through the C functions. A refused command or report must
+ * leave every buffer as it was. A difference is told with the case's name, and ends the program.
  */
 #ifndef CASES_H
 #define CASES_H
@@ -30,7 +30,7 @@ struct change {
 };
 
 /* At most so many; the others are 0 and change nothing. */
-#define CHANGES 9
+#define CHANGES 8
 
 #define SITES(n) {1, 1, n}
 #define COMMIT_QUORUM(c) {2, 2, c}
