@@ -53,7 +53,10 @@
  *                OUTCOME        replies OUTCOME ACK
  *                a reply        nothing more
  *   CRASH      down, subordinate. The log stays; what it knew is lost: its codes are those of its group record, or all 0, and its own its state
- *   RECOVER    up; nothing else. Where anything is logged, the next TIMEOUT makes it coordinator; an empty log is active, as at the start
+ *   RECOVER    empty log        up, subordinate; writes abort, sends nothing; its codes of other sites stay. (Document 01 had it active as at the
+ *                               start, and so did version 1. Document 02 corrected that: it has lost what it knew, and must not say yes to a round
+ *                               that it no longer has. So where site 0 restarts before START, START is 14.)
+ *              any record       up; nothing else. The next TIMEOUT makes it coordinator
  *
  * There is room for QC_ROWS rows, and none is ever given back. Each TIMEOUT of a site that is not active spends one, even where nothing has
  * arrived since the last; so 15 (QC_STORE_FULL) can end a competition undecided. A caller should let replies arrive before it lets a site time out.
@@ -65,7 +68,7 @@
 #include <stdint.h>
 
 /* The major number goes up when a program may have to change, the minor one when something is added. */
-#define QC_VERSION_MAJOR 1
+#define QC_VERSION_MAJOR 2
 #define QC_VERSION_MINOR 0
 #define QC_LAYOUT 1 /* of a world's bytes: its first byte */
 

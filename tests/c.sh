@@ -40,7 +40,7 @@ for list in '' examples/m3.bin; do
     cmp "$work/got" crates/player/stdout
 done
 refused=0
-for list in tests/vectors/*.bin; do
+for list in tests/vectors/*/*.bin; do
     wanted=0
     grep -q '^refused' "${list%.bin}.out" && wanted=1
     status "$wanted" target/play_day "$list"

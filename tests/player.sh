@@ -13,12 +13,12 @@ expect() { # NAME: the list is in $work/list, what must be printed on standard i
 }
 
 count=0
-for list in tests/vectors/*.bin; do
+for list in tests/vectors/*/*.bin; do
     cp "$list" "$work/list"
     expect "$list" < "${list%.bin}.out"
     count=$((count + 1))
 done
-[ "$count" -ge 60 ] || { echo "player: only $count vectors"; exit 1; }
+[ "$count" -ge 118 ] || { echo "player: only $count vectors"; exit 1; }
 
 : > "$work/list"
 echo 'refused 2 at 0' | expect 'an empty list'

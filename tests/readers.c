@@ -177,6 +177,43 @@ static void short_lists(void)
     CHECK_TEXT(site_line(2), "2 up subordinate aborted --a 005");
 }
 
+/* Site 1 restarts before it has voted: R1, R2; site 0 before START: R3. */
+static void restarts(void)
+{
+    static const uint8_t voted[] = {HEADER(3, 2, 2, 7, 0), START, CRASH(1), RECOVER(1), DELIVER(0, 1), DELIVER(1, 0)};
+    static const uint8_t host[] = {HEADER(3, 2, 2, 7, 0), CRASH(0), RECOVER(0), START};
+    CHECK(play(voted, 10), QC_ACCEPTED);
+    CHECK(qc_row_count(world), 1);
+    CHECK_TEXT(site_line(1), "1 up subordinate aborted --a 050");
+    CHECK_PLAY(voted, QC_ACCEPTED, 5, 18);
+    CHECK_TEXT(site_line(0), "0 up coordinator aborted P-a 550");
+    CHECK_TEXT(site_line(1), "1 up subordinate aborted --a 150");
+    CHECK_ROW(1, QC_VOTE, 1, 1, "150");
+    CHECK_PLAY(host, QC_STARTED, 2, 9);
+    CHECK_TEXT(site_line(0), "0 up subordinate aborted --a 500");
+}
+
+/* Site 1 as a world may be handed in: down, coordinator, knowing 1, its own code and 3; with an empty log, and with a prepare record. */
+static void restarts_of_a_coordinator(void)
+{
+    static const uint8_t recover[] = {RECOVER(1)};
+    static const uint8_t fresh[] = {HEADER(3, 2, 2, 7, 0)};
+    uint8_t *site = world + 16 + 40;
+    unsigned record;
+    for (record = 0; record < 2; record++) {
+        CHECK(play(fresh, sizeof fresh), QC_ACCEPTED);
+        site[0] = 0;
+        site[1] = QC_COORDINATOR;
+        site[2] = (uint8_t)record;
+        site[8] = QC_PREPARED;
+        site[9] = record ? QC_PREPARED : QC_ACTIVE;
+        site[10] = QC_ABORT_GROUP;
+        CHECK(qc_play_command(world, sizeof world, store, sizeof store, recover, sizeof recover, 0, result, sizeof result), QC_ACCEPTED);
+        CHECK(qc_row_count(world), 0);
+        CHECK_TEXT(site_line(1), record ? "1 up coordinator prepared P-- 113" : "1 up subordinate aborted --a 153");
+    }
+}
+
 /* Sixteen sites: the high bytes of willing sites and destinations, and the last site. */
 static void the_most_sites(void)
 {
@@ -295,6 +332,8 @@ int main(void)
     an_abort();
     a_commit();
     short_lists();
+    restarts();
+    restarts_of_a_coordinator();
     the_most_sites();
     refusals();
     a_full_store();

@@ -2,7 +2,7 @@
 
 use crate::command::Command;
 use crate::row::{Kind, Row};
-use crate::site::{GroupRecord, Role, Site};
+use crate::site::{GroupRecord, Log, Role, Site};
 use crate::sizes::{everyone, Sizes};
 use crate::state::{Side, State};
 use crate::vector::Vector;
@@ -123,9 +123,14 @@ impl Actor<'_> {
         self.show_state();
     }
 
-    /// RECOVER of this site.
+    /// RECOVER of this site. With nothing on stable storage it does not know
+    /// what it may have missed, so it aborts, and tells nobody.
     fn recover(&mut self) {
         self.site.up = true;
+        if self.site.log == Log::EMPTY {
+            self.site.role = Role::Subordinate;
+            self.end(Side::Abort);
+        }
     }
 
     /// Writes the prepare record.

@@ -6,7 +6,7 @@ use std::fmt;
 use crate::command::Command;
 use crate::play::{play_command, play_list_by, Played};
 use crate::row::STORE_BYTES;
-use crate::site::Site;
+use crate::site::{Log, Site};
 use crate::state::{Side, State};
 use crate::world::{World, MAX_ROWS};
 
@@ -28,12 +28,14 @@ pub enum Sight {
     /// A prepared coordinator times out that knows of no active site and of no
     /// commit group, but of an abort group.
     ThreesForPrepares,
+    /// A site recovers with an empty log.
+    Restart,
     /// Every row the store has room for is sent.
     FullStore,
 }
 
 impl Sight {
-    pub const ALL: [Sight; 8] = [
+    pub const ALL: [Sight; 9] = [
         Sight::Repeat,
         Sight::SeveralLeaders,
         Sight::BothGroups,
@@ -41,6 +43,7 @@ impl Sight {
         Sight::CommitQuorum,
         Sight::AbortQuorum,
         Sight::ThreesForPrepares,
+        Sight::Restart,
         Sight::FullStore,
     ];
 }
@@ -106,7 +109,11 @@ impl Eye {
                 self.look_for_threes(world.sizes.n, site_before);
             }
             Command::Crash(_) => self.look_at_crash(world),
-            Command::Start | Command::Recover(_) => {}
+            Command::Recover(_) => {
+                let had_no_record = |site: &Site| site.log == Log::EMPTY;
+                self.note(Sight::Restart, site_before.is_some_and(had_no_record));
+            }
+            Command::Start => {}
         }
         if before != Some(after) {
             self.look_at_groups(world);

@@ -6,8 +6,8 @@ use model::generate::{list_of, quiet_day};
 use model::row::{ROW_BYTES, STORE_BYTES};
 use model::{play_list, printed, Command, Kind, Played, Row, Side, Site, Sizes, State, World};
 
-use common::{header, rows_of_site_0, three, three_sites};
-use common::{M3_LIST, M3_REPORT, THREES_FOR_PREPARES, TWO_AGAINST};
+use common::{header, rows_of_site_0, three, three_sites, vector};
+use common::{M3_LIST, M3_REPORT, RESTART, THREES_FOR_PREPARES, TWO_AGAINST};
 use Command::{Crash, Recover, Start, Timeout};
 
 /// Two sites in the abort group, and then some commands.
@@ -153,6 +153,28 @@ fn m9_a_row_to_its_sender() {
 #[test]
 fn m10_recover_at_once() {
     Day::new(&three(7, &[Recover(1)])).assert_stopped(13, 5, 0);
+}
+
+#[test]
+fn a_restart_before_the_vote() {
+    let day = Day::new(&three(7, &RESTART[..3]));
+    day.assert_accepted(3, 1);
+    assert_eq!(day.log(1), (false, None, Some(Side::Abort)));
+    assert!(day.site(1).up && !day.site(1).is_coordinator());
+    assert_eq!(day.codes(1), [0, 5, 0]);
+    let day = Day::new(&three(7, &RESTART));
+    day.assert_accepted(5, 2);
+    assert_eq!(day.row(1).kind, Kind::Vote);
+    assert_eq!(day.row(1).vector, vector(&[1, 5, 0]));
+    assert_eq!(day.log(0), (true, None, Some(Side::Abort)));
+    assert_eq!(day.codes(0), [5, 5, 0]);
+}
+
+#[test]
+fn a_restart_before_start() {
+    let day = Day::new(&three(7, &[Crash(0), Recover(0), Start]));
+    day.assert_stopped(14, 9, 2);
+    assert_eq!(day.log(0), (false, None, Some(Side::Abort)));
 }
 
 #[test]

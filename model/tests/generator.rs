@@ -104,6 +104,7 @@ fn guided_lists_are_rich() {
         (Sight::BothGroups, 2),
         (Sight::CrashMidway, 5),
         (Sight::ThreesForPrepares, 2),
+        (Sight::Restart, 5),
     ] {
         assert!(tally.percent(sight) >= least, "{sight:?}");
     }
@@ -140,6 +141,8 @@ struct Met {
     deliveries: HashSet<(Kind, State, Role)>,
     /// State and role at each accepted TIMEOUT.
     timeouts: HashSet<(State, Role)>,
+    /// State and role at each accepted RECOVER.
+    recoveries: HashSet<(State, Role)>,
 }
 
 impl Met {
@@ -169,6 +172,9 @@ impl Met {
             Command::Timeout(_) => {
                 self.timeouts.insert((site.state(), site.role));
             }
+            Command::Recover(_) => {
+                self.recoveries.insert((site.state(), site.role));
+            }
             _ => {}
         }
     }
@@ -190,6 +196,7 @@ fn single_calls_meet_every_number_and_rule() {
     // Seven kinds, six states, two roles.
     assert_eq!(met.deliveries.len(), 7 * 6 * 2);
     assert_eq!(met.timeouts.len(), 6 * 2);
+    assert_eq!(met.recoveries.len(), 6 * 2);
 }
 
 #[test]

@@ -238,6 +238,42 @@ fn a_crash_keeps_the_log_alone() {
 }
 
 #[test]
+fn a_restart_with_an_empty_log_aborts() {
+    for role in [Role::Subordinate, Role::Coordinator] {
+        let down = Site {
+            up: false,
+            role,
+            ..site(false, None, None, [1, 0, 3, 5])
+        };
+        let (up, sent) = after(down, None, Command::Recover(1));
+        assert_eq!(up, site(false, None, Some(Side::Abort), [1, 5, 3, 5]));
+        assert_eq!(sent, None);
+    }
+}
+
+#[test]
+fn a_restart_with_any_record_changes_nothing_else() {
+    for held in [
+        site(true, None, None, [1, 1, 0, 0]),
+        site(true, Some(Side::Commit), None, [2, 2, 1, 1]),
+        site(false, Some(Side::Abort), None, [3, 3, 0, 0]),
+        site(true, None, Some(Side::Commit), [4, 4, 0, 0]),
+        site(false, None, Some(Side::Abort), [0, 5, 0, 0]),
+    ] {
+        for role in [Role::Subordinate, Role::Coordinator] {
+            let down = Site {
+                up: false,
+                role,
+                ..held
+            };
+            let (up, sent) = after(down, None, Command::Recover(1));
+            assert_eq!(up, Site { up: true, ..down });
+            assert_eq!(sent, None);
+        }
+    }
+}
+
+#[test]
 fn a_row_lies_in_the_store_byte_by_byte() {
     let mut world = World::fresh(Sizes::new(16, 15, 2, u16::MAX));
     let mut store = vec![7; STORE_BYTES];

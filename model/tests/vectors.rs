@@ -2,25 +2,29 @@
 
 use std::fs;
 use std::io::Write;
-use std::path::Path;
+use std::path::{Path, PathBuf};
 use std::process::{Command, Stdio};
 
-/// The repository's vectors, and how many there are at the least.
+/// The repository's vectors, a folder for the base and for each request, and how
+/// many there are at the least.
 const FOLDER: &str = concat!(env!("CARGO_MANIFEST_DIR"), "/../tests/vectors");
-const LEAST: usize = 60;
+const LEAST: usize = 118;
 
-/// Every list of the folder, with its name and what is to be printed.
-fn vectors() -> Vec<(String, Vec<u8>, Vec<u8>)> {
-    let folder = Path::new(FOLDER);
+/// What a folder holds.
+fn entries(folder: &Path) -> impl Iterator<Item = PathBuf> {
     let entries = fs::read_dir(folder).unwrap_or_else(|why| panic!("{}: {why}", folder.display()));
-    let mut all: Vec<_> = entries
-        .map(|entry| entry.unwrap().path())
+    entries.map(|entry| entry.unwrap().path())
+}
+
+/// Every list, with its path and what is to be printed.
+fn vectors() -> Vec<(String, Vec<u8>, Vec<u8>)> {
+    let mut all: Vec<_> = entries(Path::new(FOLDER))
+        .flat_map(|folder| entries(&folder))
         .filter(|path| path.extension().is_some_and(|ending| ending == "bin"))
         .map(|path| {
-            let name = path.file_stem().unwrap().to_string_lossy().into_owned();
             let list = fs::read(&path).unwrap();
             let wanted = fs::read(path.with_extension("out")).unwrap();
-            (name, list, wanted)
+            (path.display().to_string(), list, wanted)
         })
         .collect();
     all.sort();

@@ -49,6 +49,7 @@ static const struct command_case sites[] = {
     {"12 CRASH of another passes", {DOWN(2)}, {BYTES(4, 1), 0, 0, 2}},
     {"13 RECOVER while up", FRESH, {BYTES(5, 1), 0, 13, 0}},
     {"13 RECOVER while down passes", {DOWN(1)}, {BYTES(5, 1), 0, 0, 2}},
+    {"13 RECOVER while down with a record passes", {DOWN(1), PREPARED(1), CODE(1, 1, QC_PREPARED)}, {BYTES(5, 1), 0, 0, 2}},
     {"13 RECOVER while another is down", {DOWN(2)}, {BYTES(5, 1), 0, 13, 0}},
     {"14 START while site 0 is active passes", FRESH, {BYTES(1), 0, 0, 1}},
     {"14 START while site 0 is aborted", {ABORTED}, {BYTES(1), 0, 14, 0}},
@@ -59,6 +60,7 @@ static const struct command_case room[] = {
     {"15 START with 1,024 rows", {ROWS(1024)}, {BYTES(1), 0, 15, 0}},
     {"15 a TIMEOUT that sends nothing passes", {ROWS(1024)}, {BYTES(3, 2), 0, 0, 2}},
     {"15 CRASH with 1,024 rows passes", {ROWS(1024)}, {BYTES(4, 2), 0, 0, 2}},
+    {"15 RECOVER with an empty log and 1,024 rows passes", {DOWN(2), ROWS(1024)}, {BYTES(5, 2), 0, 0, 2}},
     {"15 TIMEOUT aborted, 1,024 rows", {ABORTED, ROWS(1024)}, {BYTES(3, 0), 0, 15, 0}},
     {"15 TIMEOUT aborted, 1,023 rows passes", {ABORTED, ROWS(1023)}, {BYTES(3, 0), 0, 0, 2}},
 };

@@ -1,6 +1,6 @@
--- THE DAYS AT THREE CLUBS marked M in document 01, "Days at three clubs": each list of bytes, and what playing it is to show. T1 is not
--- among them: it plays a temptation. Written from the paper. n = 3, C = A = 2, all willing (bits 7) unless said. A report's site line
--- is: number, up or down, role, state, log, n codes. A row is: kind, sender, destinations, codes.
+-- THE DAYS AT THREE CLUBS marked M in document 01, "Days at three clubs": each list of bytes, and what playing it is to show. Not among
+-- them: T1 plays a temptation, R1 to R3 are restarts. Written from the papers. n = 3, C = A = 2, all willing (bits 7) unless said. A
+-- report's site line is: number, up or down, role, state, log, n codes. A row is: kind, sender, destinations, codes.
 use Prim.Native.Nat.{ℕ}
 use mathlib.Core.List.{List, [], _∷_, _++_}
 use Rattle.site.specs.Records.{wrote, prepareRecord, groupRecord, outcomeRecord, abort}
@@ -303,6 +303,75 @@ T1 =
           };
     }
 
+-- R1 a site that restarts before it has voted (document 02, request (i)): START, CRASH 1, RECOVER 1: `--a`, codes 050, no further row
+unfoldable pub R1 : Day
+R1 =
+    record {
+      list = three 7 ++ START ++ CRASH 1 ++ RECOVER 1;
+      expected =
+          record {
+            number = 0;
+            place = 10;
+            events = 3;
+            rows = prepare 0 (1 ∷ 2 ∷ []) "100" ∷ [];
+            records = wrote 0 prepareRecord ∷ wrote 1 (outcomeRecord abort) ∷ [];
+            report =
+                lines
+                ("sites 3 commit 2 abort 2 events 3 rows 1"
+                ∷ "0 up coordinator prepared P-- 100"
+                ∷ "1 up subordinate aborted --a 050"
+                ∷ "2 up subordinate active --- 000"
+                ∷ "end 10"
+                ∷ []);
+          };
+    }
+
+-- R2 R1, then row 0 to site 1, whose vote shows 5, and that vote, row 1, to site 0: `P-a`, codes 550
+unfoldable pub R2 : Day
+R2 =
+    record {
+      list = three 7 ++ START ++ CRASH 1 ++ RECOVER 1 ++ DELIVER 0 1 ++ DELIVER 1 0;
+      expected =
+          record {
+            number = 0;
+            place = 18;
+            events = 5;
+            rows = prepare 0 (1 ∷ 2 ∷ []) "100" ∷ vote 1 (0 ∷ []) "150" ∷ [];
+            records = wrote 0 prepareRecord ∷ wrote 1 (outcomeRecord abort) ∷ wrote 0 (outcomeRecord abort) ∷ [];
+            report =
+                lines
+                ("sites 3 commit 2 abort 2 events 5 rows 2"
+                ∷ "0 up coordinator aborted P-a 550"
+                ∷ "1 up subordinate aborted --a 150"
+                ∷ "2 up subordinate active --- 000"
+                ∷ "end 18"
+                ∷ []);
+          };
+    }
+
+-- R3 CRASH 0, RECOVER 0, then START: 14
+unfoldable pub R3 : Day
+R3 =
+    record {
+      list = three 7 ++ CRASH 0 ++ RECOVER 0 ++ START;
+      expected =
+          record {
+            number = 14;
+            place = 9;
+            events = 2;
+            rows = [];
+            records = wrote 0 (outcomeRecord abort) ∷ [];
+            report =
+                lines
+                ("sites 3 commit 2 abort 2 events 2 rows 0"
+                ∷ "0 up subordinate aborted --a 500"
+                ∷ "1 up subordinate active --- 000"
+                ∷ "2 up subordinate active --- 000"
+                ∷ "refused 14 at 9"
+                ∷ []);
+          };
+    }
+
 -- THE TABLE
 unfoldable pub days : List Day
-days = M1 ∷ M2 ∷ M3 ∷ M4 ∷ M5 ∷ M6 ∷ M7 ∷ M8 ∷ M9 ∷ M10 ∷ T1 ∷ []
+days = M1 ∷ M2 ∷ M3 ∷ M4 ∷ M5 ∷ M6 ∷ M7 ∷ M8 ∷ M9 ∷ M10 ∷ T1 ∷ R1 ∷ R2 ∷ R3 ∷ []

@@ -1,10 +1,12 @@
-// Plays the worked days of document 01.
+// Plays the worked days of document 01, and those of document 02's requests.
 // One line for each case: its name, and ok or what came instead.
 mod day;
 mod marked;
+mod restarted;
 mod tempted;
 
 fn main() {
     marked::cases();
     tempted::cases();
+    restarted::cases();
 }

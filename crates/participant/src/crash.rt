@@ -5,6 +5,7 @@ ghost use Rattle.rules.specs.Rules.{crash, recover};
 use crate::Participant;
 use rules::Step;
 use rules::kept_vector;
+use rules::restarted;
 use rules::silent;
 
 impl Participant {
@@ -22,10 +23,17 @@ impl Participant {
         silent(site)
     }
 
+    // With an empty log an aborted subordinate; with any record up, and nothing else.
     pub fn recover(mut self) -> Step
-        ensures { λ r. ⌜ r ≡ (recover (self .site)) .step ⌝ }
+        requires { ⌜ self .own < 16 ⌝ }
+        ensures { λ r. ⌜ r ≡ (recover (self .own) (self .site)) .step ⌝ }
     {
-        self.site.up = true;
-        silent(self.site)
+        let own = self.own;
+        let mut site = self.site;
+        if site::is_active(site.state()) {
+            return restarted(own, site);
+        }
+        site.up = true;
+        silent(site)
     }
 }

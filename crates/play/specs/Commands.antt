@@ -48,7 +48,7 @@ crashCall w store at next i =
 unfoldable pub recoverCall : World → List ℕ → ℕ → ℕ → ℕ → Call
 recoverCall w store at next i =
     pick (ltb i (w .n))
-    (pick (siteOf w i .up) (refuse 13 w store at) (enter w store at next i (recover (siteOf w i))))
+    (pick (siteOf w i .up) (refuse 13 w store at) (enter w store at next i (recover i (siteOf w i))))
     (refuse 8 w store at)
 
 -- DELIVER of a row that is there: 10 row not known; 11 site not among its destinations; 12 down

@@ -18,7 +18,7 @@ use Rattle.site.specs.declared.Site.{Site}
 use Rattle.rules.specs.declared.Step.{Step}
 use Rattle.site.specs.declared.CommitQuorum.{CommitQuorum}
 use Rattle.site.specs.declared.AbortQuorum.{AbortQuorum}
-use Rattle.site.specs.State.{stateOf, codeOf, isTerminated, commitReached, abortReached}
+use Rattle.site.specs.State.{stateOf, codeOf, isTerminated, isActive, commitReached, abortReached}
 use Rattle.site.specs.Fields.{zeroVector, withUp, withCoordinator, withCodes}
 use Rattle.site.specs.Records.{Written, wrote, prepareRecord, groupRecord, outcomeRecord, commit, abort, writePrepare, joinGroup, writeOutcome}
 
@@ -172,6 +172,12 @@ crash own s =
     (withCodes (set (keptVector (s .group) (s .joined)) own (codeOf (stateOf s))) s)))
     []
 
--- RECOVER: up; nothing else changes
-unfoldable pub recover : Site → Move
-recover s = silent (withUp true s) []
+-- RECOVER with an empty log: up, subordinate; write abort, send nothing
+unfoldable pub restart : ℕ → Site → Move
+restart own s =
+    silent (withUp true (withCoordinator false (writeOutcome abort own s))) (wrote own (outcomeRecord abort) ∷ [])
+
+-- RECOVER. The log is empty exactly if the site is active: then as above (document 02, request (i), which corrects document 01's
+-- "With an empty log it is active as at the start"). With any record: up; nothing else changes
+unfoldable pub recover : ℕ → Site → Move
+recover own s = pick (isActive (stateOf s)) (restart own s) (silent (withUp true s) [])

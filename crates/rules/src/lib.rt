@@ -1,8 +1,10 @@
 // The site rules: their definition and the steps that they give. `timeouts` and `deliveries` have parts of them, and `participant` the rules as methods.
 mod kept;
+mod restart;
 mod send;
 
 pub use kept::kept_vector;
+pub use restart::restarted;
 use row::Row;
 pub use send::commanding;
 pub use send::replying;

@@ -151,3 +151,16 @@ pub record Beyond (w : World) (store : List ℕ) (r : Ran) : Type 0 where
 -- THEOREM 6: over every list of calls, from any world and store
 abbrev pub RunsKeepBeyond : Type 0
 RunsKeepBeyond = (w : World) (store : List ℕ) (asks : List Ask) → Beyond w store (run w store asks)
+
+-- of site j a history holds at most an abort record: no prepare, no group, no commit
+pub record OnlyAborts (j : ℕ) (H : List Written) : Type 0 where
+  pub no-prepare : writtenAt j 1 H ≡ 0
+  pub no-group : writtenAt j 2 H + writtenAt j 3 H ≡ 0
+  pub no-commit : writtenAt j 4 H ≡ 0
+  pub one-abort : writtenAt j 5 H ≤ 1
+
+-- THEOREM 7: a site that is down with an empty log never says yes afterwards: over every list of calls, from any world and store
+abbrev pub NeverVotesYes : Type 0
+NeverVotesYes =
+    (w : World) (store : List ℕ) (asks : List Ask) (j : ℕ) → Shaped w → siteOf w j .up ≡ false →
+    isActive (stateOf (siteOf w j)) ≡ true → OnlyAborts j (run w store asks .records)

@@ -22,3 +22,4 @@ pub mod NeverOccurs
 pub mod FreshValid
 pub mod RunWorlds
 pub mod RunStores
+pub mod Restarts

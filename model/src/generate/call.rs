@@ -159,7 +159,16 @@ fn any_command(rng: &mut Rng, world: &World) -> Command {
         1..=5 => Command::deliver(below_or_at(rng, world.row_count), site),
         6..=7 => Command::Timeout(site),
         8 => Command::Crash(site),
-        _ => Command::Recover(site),
+        _ => Command::Recover(down_or(rng, world, site)),
+    }
+}
+
+/// Most often a site that is down, if there is one.
+fn down_or(rng: &mut Rng, world: &World, site: usize) -> usize {
+    let down = (0..world.sizes.n).filter(|&site| !world.sites[site].up);
+    match rng.pick(down) {
+        Some(found) if rng.chance(70) => found,
+        _ => site,
     }
 }
 

@@ -5,7 +5,7 @@
 use model::generate::list_of;
 use model::{Command, GroupRecord, Role, Side, Sizes, State, Vector, World};
 
-use Command::{Start, Timeout};
+use Command::{Crash, Recover, Start, Timeout};
 
 /// The list of the worked report, in bytes.
 pub const M3_LIST: [u8; 26] = [
@@ -42,6 +42,15 @@ pub const THREES_FOR_PREPARES: [Command; 9] = [
     Command::deliver(4, 0),
     Command::deliver(5, 1),
     Timeout(1),
+];
+
+/// Site 1 restarts before it has voted; its vote is no yes, and site 0 is told.
+pub const RESTART: [Command; 5] = [
+    Start,
+    Crash(1),
+    Recover(1),
+    Command::deliver(0, 1),
+    Command::deliver(1, 0),
 ];
 
 /// Three sites, quorums of two.

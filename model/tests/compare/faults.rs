@@ -3,8 +3,10 @@
 use model::calls::{Model, Rules};
 use model::play::play_command;
 use model::row::ROW_BYTES;
+use model::sizes::everyone;
 use model::world::MAX_ROWS;
-use model::{number, Ask, Command, GroupRecord, Kind, Numbers, Row, Side, State, World};
+use model::{number, Ask, Command, GroupRecord, Kind, Log, Numbers};
+use model::{Row, Side, Site, State, World};
 
 #[derive(Clone, Copy, Debug, PartialEq, Eq)]
 pub enum Fault {
@@ -17,6 +19,12 @@ pub enum Fault {
     TakesThreeForPrepare,
     /// The vector lives through a crash.
     KeepsVector,
+    /// A site with an empty log comes back active.
+    ComesBackActive,
+    /// A coordinator with an empty log comes back as one.
+    ComesBackLeading,
+    /// A site with an empty log sends its outcome when it comes back.
+    TellsOfRestart,
     /// A site in the abort group moves when a join commit arrives.
     LeavesAbortGroup,
     /// The byte after the last row is changed.
@@ -29,10 +37,13 @@ pub enum Fault {
     WritesPastText,
 }
 
-pub const FAULTS: [Fault; 8] = [
+pub const FAULTS: [Fault; 11] = [
     Fault::CountsAllEntries,
     Fault::TakesThreeForPrepare,
     Fault::KeepsVector,
+    Fault::ComesBackActive,
+    Fault::ComesBackLeading,
+    Fault::TellsOfRestart,
     Fault::LeavesAbortGroup,
     Fault::WritesPastRows,
     Fault::MistakesBadRow,
@@ -75,6 +86,10 @@ impl Faulty {
             (Fault::KeepsVector, Command::Crash(_)) => {
                 world.sites[me].vector = before.sites[me].vector;
             }
+            (
+                Fault::ComesBackActive | Fault::ComesBackLeading | Fault::TellsOfRestart,
+                Command::Recover(_),
+            ) if before.sites[me].log == Log::EMPTY => self.restart(before, world, store, me),
             (Fault::CountsAllEntries, Command::Timeout(_)) => count_all(before, world, store, me),
             (Fault::TakesThreeForPrepare, Command::Timeout(_)) => {
                 take_for_prepares(before, world, store, me)
@@ -86,6 +101,29 @@ impl Faulty {
             }
             (Fault::WritesPastRows, _) if world.row_count < MAX_ROWS => {
                 store[world.row_count * ROW_BYTES] ^= 1
+            }
+            _ => {}
+        }
+    }
+}
+
+impl Faulty {
+    /// RECOVER with an empty log.
+    fn restart(&self, before: &World, world: &mut World, store: &mut [u8], me: usize) {
+        let held = &before.sites[me];
+        let site = &mut world.sites[me];
+        match self.0 {
+            Fault::ComesBackActive => *site = Site { up: true, ..*held },
+            Fault::ComesBackLeading => site.role = held.role,
+            Fault::TellsOfRestart if world.row_count < MAX_ROWS => {
+                let row = Row {
+                    kind: Kind::Outcome,
+                    sender: me,
+                    to: everyone(world.sizes.n) & !(1 << me),
+                    vector: site.vector,
+                };
+                row.write(store, world.row_count);
+                world.row_count += 1;
             }
             _ => {}
         }

@@ -104,6 +104,10 @@ pub fair-coordinator : {t : Terms} {own : ℕ} {H : List Written} {s : Site} {re
     Fair t own H s records → Fair t own H (withCoordinator x s) records
 fair-coordinator x f = record { standing = standing-coordinator x (f .standing); elsewhere = f .elsewhere }
 
+pub fair-up : {t : Terms} {own : ℕ} {H : List Written} {s : Site} {records : List Written} (x : Bool) →
+    Fair t own H s records → Fair t own H (withUp x s) records
+fair-up x f = record { standing = standing-up x (f .standing); elsewhere = f .elsewhere }
+
 -- nothing sent
 pub fair-silent : {t : Terms} {own : ℕ} {H : List Written} (s : Site) (records : List Written) → Fair t own H s records →
     FairMove t own H (silent s records)

@@ -1,19 +1,33 @@
 -- CRASH and RECOVER are fair.
 use Prim.Native.Nat.{ℕ, _≤_}
 use mathlib.Core.Bool.{true, false}
-use mathlib.Core.List.{List, []}
+use mathlib.Core.List.{List, [], _∷_}
 use native.Mathlib.Omega.{arith}
 use lib.ListN.{set}
+use Rattle.choice.specs.laws.ChoiceLaws.{pick-ind}
 use Rattle.site.specs.declared.Group.{Group}
 use Rattle.site.specs.declared.Group.the-variants as Group·
+use Rattle.site.specs.declared.State.the-variants as State·
 use Rattle.site.specs.declared.Site.{Site}
-use Rattle.site.specs.State.{stateOf, codeOf}
+use Rattle.site.specs.State.{stateOf, codeOf, isActive}
 use Rattle.site.specs.Fields.{withUp, withCoordinator, withCodes}
-use Rattle.site.specs.Records.{Written}
-use Rattle.rules.specs.Rules.{keptVector, crash, recover}
-use Rattle.safety.specs.laws.Truth.{Terms, TrueVector}
-use Rattle.safety.specs.laws.TruthLaws.{zero-true, vector-set, says, says-code}
-use Rattle.safety.specs.laws.Fair.{Standing, FairMove, fair-stay, standing-coordinator, standing-up, standing-codes, fair-silent}
+use Rattle.site.specs.Records.{Written, wrote, outcomeRecord, abort, writeOutcome}
+use Rattle.rules.specs.Rules.{silent, keptVector, crash, restart, recover}
+use Rattle.safety.specs.laws.Truth.{Terms, TrueVector, Says}
+use Rattle.safety.specs.laws.TruthLaws.{zero-true, vector-set, says, says-code, says-active}
+use Rattle.safety.specs.laws.Writing.{unprepared, writeRecord}
+use Rattle.safety.specs.laws.Fair.{
+  Standing,
+  FairMove,
+  fair-stay,
+  fair-write,
+  standing-coordinator,
+  standing-up,
+  standing-codes,
+  fair-coordinator,
+  fair-up,
+  fair-silent,
+}
 
 -- what a crash leaves of the vector is true
 kept-true : (n : ℕ) (H : List Written) (g : Group) (v : List ℕ) → n ≤ 16 → TrueVector n H v → TrueVector n H (keptVector g v)
@@ -32,6 +46,17 @@ fair-crash {t} {own} {H} {s} st =
     (kept-true (t .n) H (s .group) (s .joined) (st .few) (st .site .joined))
     (says-code (stateOf s) own H (says (st .site)))) st))))
 
-pub fair-recover : {t : Terms} {own : ℕ} {H : List Written} {s : Site} → Standing t own H s → FairMove t own H (recover s)
+-- with an empty log the site has not prepared, so it may abort
+fair-restart : {t : Terms} {own : ℕ} {H : List Written} {s : Site} → Standing t own H s → Says State·.Active own H →
+    FairMove t own H (restart own s)
+unfolding restart writeRecord
+fair-restart {own = own} {s = s} st (p, g, o) =
+    fair-silent (withUp true (withCoordinator false (writeOutcome abort own s))) (wrote own (outcomeRecord abort) ∷ [])
+    (fair-up true (fair-coordinator false (fair-write st (outcomeRecord abort) (o, unprepared p))))
+
+pub fair-recover : {t : Terms} {own : ℕ} {H : List Written} {s : Site} → Standing t own H s → FairMove t own H (recover own s)
 unfolding recover
-fair-recover {s = s} st = fair-silent (withUp true s) [] (fair-stay (standing-up true st))
+fair-recover {t} {own} {H} {s} st =
+    pick-ind (FairMove t own H) (isActive (stateOf s)) (restart own s) (silent (withUp true s) [])
+    (λ e. fair-restart st (says-active (stateOf s) own H e (says (st .site))))
+    (λ _. fair-silent (withUp true s) [] (fair-up true (fair-stay st)))

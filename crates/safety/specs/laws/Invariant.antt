@@ -55,14 +55,14 @@ module _ (w : World) (store : List ℕ) (H : List Written) (inv : Invariant w st
   -- every turn is fair
   fair-turn : (own : ℕ) (m : Move) → own < w .n → Turn w store own m → FairMove (termsOf w) own H m
   unfolding isWilling
-  fair-turn own m less (by-start active) =
+  fair-turn own m less (by-start up active) =
       fair-start (isWilling w 0) refl (standing 0 less) (says-active (stateOf (siteOf w 0)) 0 H active (says (inv .sites 0 less)))
-  fair-turn own m less (by-timeout i) =
+  fair-turn own m less (by-timeout i up) =
       fair-timeout (w .n) (w .commit) (w .abort) (w .willing) i H (siteOf w i) (standing i less)
-  fair-turn own m less (by-deliver i k there known) =
+  fair-turn own m less (by-deliver i k up there known) =
       fair-deliver (isWilling w i) (getRow store k) refl (inv .rows k there) (standing i less)
-  fair-turn own m less (by-crash i) = fair-crash (standing i less)
-  fair-turn own m less (by-recover i) = fair-recover (standing i less)
+  fair-turn own m less (by-crash i up) = fair-crash (standing i less)
+  fair-turn own m less (by-recover i down) = fair-recover (standing i less)
 
   -- the sites after a move of one of them
   sites-after : (own : ℕ) (m : Move) → own < w .n → FairMove (termsOf w) own H m → (j : ℕ) → j < w .n →

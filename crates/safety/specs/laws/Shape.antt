@@ -72,7 +72,7 @@ long-steady own n =
       role = λ b s H q. record { codes = q .codes; joined = q .joined };
       prepares = λ s H e q. record { codes = simp length-set (q .codes); joined = q .joined };
       joins = λ k s H e q. record { codes = simp length-set (q .codes); joined = simp length-set (q .codes) };
-      decides = λ k s H q. record { codes = simp length-set (q .codes); joined = q .joined };
+      decides = λ k s H e q. record { codes = simp length-set (q .codes); joined = q .joined };
       hears = λ said s H e q. record { codes = merge-length n own said (s .codes) ∙ q .codes; joined = q .joined };
       forgets = λ s H q. record { codes = simp length-set (kept-length (s .group) (s .joined) (q .joined)); joined = q .joined };
     }

@@ -251,12 +251,12 @@ module _ (own n : ℕ) (below : own < n) (most : n ≤ 16) where
         group = joined-valid k own n (set (s .codes) own c) v own-is;
       }
 
-  sound-decides : (k : Kind) (s : Site) → SoundSite own n s → SoundSite own n (writeOutcome k own s)
+  sound-decides : (k : Kind) (s : Site) → s .outcome ≡ Outcome·.None → SoundSite own n s → SoundSite own n (writeOutcome k own s)
   unfolding stateOf withOutcome withCodes withOwn writeOutcome
-  sound-decides k s q =
+  sound-decides k s e q =
       let c : ℕ = recordCode (outcomeRecord k) in
       record {
-        long = long-steady own n .decides k s [] (q .long);
+        long = long-steady own n .decides k s [] e (q .long);
         codes = set-sound n own c (s .codes) below (omega arith) (outcome-small k) (q .codes);
         own-code = getD-set-same (s .codes) own c 0 (omega arith) ∙ outcome-code k (s .group) (s .prepared);
         group = q .group;
@@ -301,7 +301,7 @@ module _ (own n : ℕ) (below : own < n) (most : n ≤ 16) where
             record { long = long-steady own n .role b s [] (q .long); codes = q .codes; own-code = q .own-code; group = q .group };
         prepares = λ s H e q. sound-prepares s e q;
         joins = λ k s H e q. sound-joins k s e q;
-        decides = λ k s H q. sound-decides k s q;
+        decides = λ k s H e q. sound-decides k s e q;
         hears = λ said s H e q. sound-hears said s e q;
         forgets = λ s H q. sound-forgets s q;
       }

@@ -57,6 +57,7 @@ use Rattle.rules.specs.Rules.{
   deliver,
   keptVector,
   crash,
+  restart,
   recover,
 }
 use Rattle.world.specs.declared.World.{World}
@@ -74,7 +75,8 @@ pub record Steady (own n : ℕ) (Q : Site → List Written → Type 0) : Type 0 
       (k : Kind) (s : Site) (H : List Written) → s .outcome ≡ Outcome·.None → Q s H →
       Q (joinGroup k own s) (H ++ (wrote own (groupRecord k) ∷ []))
   pub decides :
-      (k : Kind) (s : Site) (H : List Written) → Q s H → Q (writeOutcome k own s) (H ++ (wrote own (outcomeRecord k) ∷ []))
+      (k : Kind) (s : Site) (H : List Written) → s .outcome ≡ Outcome·.None → Q s H →
+      Q (writeOutcome k own s) (H ++ (wrote own (outcomeRecord k) ∷ []))
   pub hears : (said : List ℕ) (s : Site) (H : List Written) → codesKnown n said ≡ true → Q s H → Q (hear own n said s) H
   pub forgets :
       (s : Site) (H : List Written) → Q s H →
@@ -90,6 +92,19 @@ undecided-by Outcome·.Abort g p e = absurd (true≢false e)
 pub undecided : (s : Site) (st : State) → stateOf s ≡ st → isTerminated st ≡ false → s .outcome ≡ Outcome·.None
 unfolding stateOf
 undecided s st e t = undecided-by (s .outcome) (s .group) (s .prepared) (ap isTerminated e ∙ t)
+
+pub active-undecided : (s : Site) → stateOf s ≡ State·.Active → s .outcome ≡ Outcome·.None
+unfolding isTerminated
+active-undecided s e = undecided s State·.Active e refl
+
+is-active : (st : State) → isActive st ≡ true → st ≡ State·.Active
+unfolding isActive
+is-active State·.Active e = refl
+is-active State·.Prepared e = absurd (false≢true e)
+is-active State·.CommitGroup e = absurd (false≢true e)
+is-active State·.AbortGroup e = absurd (false≢true e)
+is-active State·.Committed e = absurd (false≢true e)
+is-active State·.Aborted e = absurd (false≢true e)
 
 module _ (own n : ℕ) (Q : Site → List Written → Type 0) (steady : Steady own n Q) where
   -- of a move, and of a site with records
@@ -114,35 +129,35 @@ module _ (own n : ℕ) (Q : Site → List Written → Type 0) (steady : Steady o
       (commanding 4 own n (joinGroup abort own s) (wrote own (groupRecord abort) ∷ []))
       (λ _. steady .joins commit s [] o q) (λ _. steady .joins abort s [] o q)
 
-  keeps-decideCommit : (c : CommitQuorum) (s : Site) → Q s [] → Moved (decideCommit own n c s)
+  keeps-decideCommit : (c : CommitQuorum) (s : Site) → s .outcome ≡ Outcome·.None → Q s [] → Moved (decideCommit own n c s)
   unfolding Moved decideCommit commanding
-  keeps-decideCommit c s q =
+  keeps-decideCommit c s o q =
       pick-ind Moved (commitReached c n (s .codes))
       (commanding 6 own n (writeOutcome commit own s) (wrote own (outcomeRecord commit) ∷ []))
       (commanding 3 own n s [])
-      (λ _. steady .decides commit s [] q) (λ _. q)
+      (λ _. steady .decides commit s [] o q) (λ _. q)
 
-  keeps-decideAbort : (a : AbortQuorum) (s : Site) → Q s [] → Moved (decideAbort own n a s)
+  keeps-decideAbort : (a : AbortQuorum) (s : Site) → s .outcome ≡ Outcome·.None → Q s [] → Moved (decideAbort own n a s)
   unfolding Moved decideAbort commanding
-  keeps-decideAbort a s q =
+  keeps-decideAbort a s o q =
       pick-ind Moved (abortReached a n (s .codes))
       (commanding 6 own n (writeOutcome abort own s) (wrote own (outcomeRecord abort) ∷ []))
       (commanding 4 own n s [])
-      (λ _. steady .decides abort s [] q) (λ _. q)
+      (λ _. steady .decides abort s [] o q) (λ _. q)
 
   keeps-timeoutIn :
       (st : State) (c : CommitQuorum) (a : AbortQuorum) (s : Site) → stateOf s ≡ st → Q s [] → Moved (timeoutIn st own n c a s)
   unfolding Moved timeoutIn silent isTerminated
-  keeps-timeoutIn State·.Active c a s e q = steady .decides abort s [] q
+  keeps-timeoutIn State·.Active c a s e q = steady .decides abort s [] (active-undecided s e) q
   keeps-timeoutIn State·.Prepared c a s e q =
       pick-ind Moved (s .coordinator) (chooseGroup own n s) (takeOver 1 own n s)
       (λ _. keeps-chooseGroup s (undecided s State·.Prepared e refl) q) (λ _. keeps-takeOver 1 s q)
   keeps-timeoutIn State·.CommitGroup c a s e q =
       pick-ind Moved (s .coordinator) (decideCommit own n c s) (takeOver 3 own n s)
-      (λ _. keeps-decideCommit c s q) (λ _. keeps-takeOver 3 s q)
+      (λ _. keeps-decideCommit c s (undecided s State·.CommitGroup e refl) q) (λ _. keeps-takeOver 3 s q)
   keeps-timeoutIn State·.AbortGroup c a s e q =
       pick-ind Moved (s .coordinator) (decideAbort own n a s) (takeOver 4 own n s)
-      (λ _. keeps-decideAbort a s q) (λ _. keeps-takeOver 4 s q)
+      (λ _. keeps-decideAbort a s (undecided s State·.AbortGroup e refl) q) (λ _. keeps-takeOver 4 s q)
   keeps-timeoutIn State·.Committed c a s e q = keeps-takeOver 6 s q
   keeps-timeoutIn State·.Aborted c a s e q = keeps-takeOver 6 s q
 
@@ -154,17 +169,17 @@ module _ (own n : ℕ) (Q : Site → List Written → Type 0) (steady : Steady o
   unfolding Held adopt adoptCode
   keeps-adopt s q =
       pick-ind Held (isTerminated (stateOf s)) (record { site = s; records = [] })
-      (adoptCode (lowestOutcome n (s .codes)) own s) (λ _. q) λ _.
+      (adoptCode (lowestOutcome n (s .codes)) own s) (λ _. q) λ going.
       pick-ind Held (eqb (lowestOutcome n (s .codes)) 4)
       (record { site = writeOutcome commit own s; records = wrote own (outcomeRecord commit) ∷ [] })
       (pick (eqb (lowestOutcome n (s .codes)) 5)
       (record { site = writeOutcome abort own s; records = wrote own (outcomeRecord abort) ∷ [] })
       (record { site = s; records = [] }))
-      (λ _. steady .decides commit s [] q) λ _.
+      (λ _. steady .decides commit s [] (undecided s (stateOf s) refl going) q) λ _.
       pick-ind Held (eqb (lowestOutcome n (s .codes)) 5)
       (record { site = writeOutcome abort own s; records = wrote own (outcomeRecord abort) ∷ [] })
       (record { site = s; records = [] })
-      (λ _. steady .decides abort s [] q) (λ _. q)
+      (λ _. steady .decides abort s [] (undecided s (stateOf s) refl going) q) (λ _. q)
 
   keeps-voteIn :
       (st : State) (willing : Bool) (s : Site) (H : List Written) → stateOf s ≡ st → Q s H →
@@ -173,7 +188,7 @@ module _ (own n : ℕ) (Q : Site → List Written → Type 0) (steady : Steady o
   keeps-voteIn State·.Active willing s H e q =
       pick-ind (λ m. Held (after H m)) willing (record { site = writePrepare own s; records = wrote own prepareRecord ∷ [] })
       (record { site = writeOutcome abort own s; records = wrote own (outcomeRecord abort) ∷ [] })
-      (λ _. steady .prepares s H e q) (λ _. steady .decides abort s H q)
+      (λ _. steady .prepares s H e q) (λ _. steady .decides abort s H (active-undecided s e) q)
   keeps-voteIn State·.Prepared willing s H e q = more s H q
   keeps-voteIn State·.CommitGroup willing s H e q = more s H q
   keeps-voteIn State·.AbortGroup willing s H e q = more s H q
@@ -193,7 +208,7 @@ module _ (own n : ℕ) (Q : Site → List Written → Type 0) (steady : Steady o
   keeps-joinAbortIn :
       (st : State) (s : Site) (H : List Written) → stateOf s ≡ st → Q s H → Held (after H (joinAbortIn st own s))
   unfolding Held after joinAbortIn isTerminated
-  keeps-joinAbortIn State·.Active s H e q = steady .joins abort s H (undecided s State·.Active e refl) q
+  keeps-joinAbortIn State·.Active s H e q = steady .joins abort s H (active-undecided s e) q
   keeps-joinAbortIn State·.Prepared s H e q = steady .joins abort s H (undecided s State·.Prepared e refl) q
   keeps-joinAbortIn State·.CommitGroup s H e q = more s H q
   keeps-joinAbortIn State·.AbortGroup s H e q = more s H q
@@ -233,9 +248,13 @@ module _ (own n : ℕ) (Q : Site → List Written → Type 0) (steady : Steady o
   unfolding Moved crash silent
   keeps-crash s q = steady .up false _ [] (steady .role false _ [] (steady .forgets s [] q))
 
-  keeps-recover : (s : Site) → Q s [] → Moved (recover s)
-  unfolding Moved recover silent
-  keeps-recover s q = steady .up true s [] q
+  keeps-recover : (s : Site) → Q s [] → Moved (recover own s)
+  unfolding Moved recover restart silent
+  keeps-recover s q =
+      pick-ind Moved (isActive (stateOf s)) (restart own s) (silent (withUp true s) [])
+      (λ e. steady .up true _ _ (steady .role false _ _
+      (steady .decides abort s [] (active-undecided s (is-active (stateOf s) e)) q)))
+      (λ _. steady .up true s [] q)
 
 -- START is at site 0
 keeps-start :
@@ -247,26 +266,17 @@ keeps-start n Q steady willing s e q =
     (commanding 1 0 n (withCoordinator true (writePrepare 0 s)) (wrote 0 prepareRecord ∷ []))
     (commanding 6 0 n (withCoordinator true (writeOutcome abort 0 s)) (wrote 0 (outcomeRecord abort) ∷ []))
     (λ _. steady .role true (writePrepare 0 s) (wrote 0 prepareRecord ∷ []) (steady .prepares s [] e q))
-    (λ _. steady .role true (writeOutcome abort 0 s) (wrote 0 (outcomeRecord abort) ∷ []) (steady .decides abort s [] q))
-
-is-active : (st : State) → isActive st ≡ true → st ≡ State·.Active
-unfolding isActive
-is-active State·.Active e = refl
-is-active State·.Prepared e = absurd (false≢true e)
-is-active State·.CommitGroup e = absurd (false≢true e)
-is-active State·.AbortGroup e = absurd (false≢true e)
-is-active State·.Committed e = absurd (false≢true e)
-is-active State·.Aborted e = absurd (false≢true e)
+    (λ _. steady .role true (writeOutcome abort 0 s) (wrote 0 (outcomeRecord abort) ∷ []) (steady .decides abort s [] (active-undecided s e) q))
 
 -- the rule, whichever it is
 pub turn-keeps :
     (w : World) (store : List ℕ) (own : ℕ) (m : Move) (Q : Site → List Written → Type 0) → Steady own (w .n) Q →
     Turn w store own m → Q (siteOf w own) [] → Q (m .step .site) (m .records)
 unfolding Moved
-turn-keeps w store own m Q steady (by-start active) q =
+turn-keeps w store own m Q steady (by-start up active) q =
     keeps-start (w .n) Q steady (isWilling w 0) (siteOf w 0) (is-active (stateOf (siteOf w 0)) active) q
-turn-keeps w store own m Q steady (by-timeout i) q = keeps-timeout i (w .n) Q steady (w .commit) (w .abort) (siteOf w i) q
-turn-keeps w store own m Q steady (by-deliver i k there known) q =
+turn-keeps w store own m Q steady (by-timeout i up) q = keeps-timeout i (w .n) Q steady (w .commit) (w .abort) (siteOf w i) q
+turn-keeps w store own m Q steady (by-deliver i k up there known) q =
     keeps-deliver i (w .n) Q steady (isWilling w i) (getRow store k) (siteOf w i) known q
-turn-keeps w store own m Q steady (by-crash i) q = keeps-crash i (w .n) Q steady (siteOf w i) q
-turn-keeps w store own m Q steady (by-recover i) q = keeps-recover i (w .n) Q steady (siteOf w i) q
+turn-keeps w store own m Q steady (by-crash i up) q = keeps-crash i (w .n) Q steady (siteOf w i) q
+turn-keeps w store own m Q steady (by-recover i down) q = keeps-recover i (w .n) Q steady (siteOf w i) q

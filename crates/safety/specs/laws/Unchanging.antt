@@ -10,12 +10,13 @@ use Rattle.row.specs.laws.RowLaws.{putRow-length, putRow-below, putRow-beyond, 
 use Rattle.site.specs.declared.Site.{Site}
 use Rattle.site.specs.Fields.{blankSite}
 use Rattle.site.specs.Records.{Written, wrote, LogRecord}
+use Rattle.rules.specs.Rules.{Move}
 use Rattle.world.specs.declared.World.{World}
 use Rattle.world.specs.Worlds.{siteOf, withSite, withRows}
 use Rattle.play.specs.Calls.{Call, refuse, enterSilent, enterRow}
 use Rattle.play.specs.Commands.{oneCommand}
 use Rattle.safety.specs.Claims.{writtenAt, Unchanged, RefusedChangesNothing, Kept, AcceptedKeepsTheRest}
-use Rattle.safety.specs.laws.View.{Seen, as-refused, as-silent, as-row}
+use Rattle.safety.specs.laws.View.{Turn, Seen, as-refused, as-silent, as-row}
 use Rattle.safety.specs.laws.ViewLaws.{view}
 use Rattle.safety.specs.laws.Turns.{Steady, turn-keeps}
 
@@ -46,18 +47,25 @@ only-steady own n =
       role = λ b s H q. q;
       prepares = λ s H e q. only-more own H _ q;
       joins = λ k s H e q. only-more own H _ q;
-      decides = λ k s H q. only-more own H _ q;
+      decides = λ k s H e q. only-more own H _ q;
       hears = λ said s H e q. q;
       forgets = λ s H q. q;
     }
 
+pub turn-only :
+    (w : World) (store : List ℕ) (own : ℕ) (m : Move) → Turn w store own m →
+    (j code : ℕ) → (j ≡ own → ⊥) → writtenAt j code (m .records) ≡ 0
+unfolding OnlyAt writtenAt
+turn-only w store own m turn =
+    turn-keeps w store own m (λ s H. OnlyAt own H) (only-steady own (w .n)) turn (λ j code h. refl)
+
 -- another site of the world
-other-site : (w : World) (own j : ℕ) (s : Site) → (j ≡ own → ⊥) → siteOf (withSite own s w) j ≡ siteOf w j
+pub other-site : (w : World) (own j : ℕ) (s : Site) → (j ≡ own → ⊥) → siteOf (withSite own s w) j ≡ siteOf w j
 unfolding siteOf withSite
 other-site w own j s h = getD-set-other (w .sites) own j s (blankSite false) h
 
 seen-accepted : (w : World) (store : List ℕ) (c : Call) → Seen w store c → c .number ≡ 0 → Kept w store c
-unfolding refuse enterSilent enterRow withRows withSite siteOf OnlyAt writtenAt
+unfolding refuse enterSilent enterRow withRows withSite siteOf
 seen-accepted w store c (as-refused number place h) e = absurd (h e)
 seen-accepted w store c (as-silent next own m g z) e =
     record {
@@ -74,7 +82,7 @@ seen-accepted w store c (as-silent next own m g z) e =
       bytes-below = λ b h. refl;
       bytes-beyond = λ b h. refl;
       rows-below = λ k h. refl;
-      own-records = turn-keeps w store own m (λ s H. OnlyAt own H) (only-steady own (w .n)) (g .turn) (λ j code h. refl);
+      own-records = turn-only w store own m (g .turn);
     }
 seen-accepted w store c (as-row next own m g z l) e =
     record {
@@ -91,7 +99,7 @@ seen-accepted w store c (as-row next own m g z l) e =
       bytes-below = putRow-below store (w .rows) (m .step .row);
       bytes-beyond = putRow-beyond store (w .rows) (m .step .row);
       rows-below = λ k h. getRow-else store (w .rows) (m .step .row) k (omega arith);
-      own-records = turn-keeps w store own m (λ s H. OnlyAt own H) (only-steady own (w .n)) (g .turn) (λ j code h. refl);
+      own-records = turn-only w store own m (g .turn);
     }
 
 pub accepted-keeps-the-rest : AcceptedKeepsTheRest

@@ -1,6 +1,6 @@
 -- A view of one command: it is a refusal, or the move of one site by one of the five rules, put into world and store.
 use Prim.Native.Nat.{ℕ, _≤_, _<_}
-use mathlib.Core.Bool.{true}
+use mathlib.Core.Bool.{true, false}
 use mathlib.Core.List.{List}
 use mathlib.Core.Path.{_≡_}
 use lib.ListN.{length}
@@ -16,13 +16,14 @@ use Rattle.play.specs.Calls.{Call, refuse, enterSilent, enterRow}
 -- the move of a site by a rule, with what the refusals have made sure of
 pub data Turn (w : World) (store : List ℕ) : ℕ → Move → Type 0 where
   by-start :
-      isActive (stateOf (siteOf w 0)) ≡ true → Turn w store 0 (start (w .n) (isWilling w 0) (siteOf w 0))
-  by-timeout : (i : ℕ) → Turn w store i (timeout i (w .n) (w .commit) (w .abort) (siteOf w i))
+      siteOf w 0 .up ≡ true → isActive (stateOf (siteOf w 0)) ≡ true →
+      Turn w store 0 (start (w .n) (isWilling w 0) (siteOf w 0))
+  by-timeout : (i : ℕ) → siteOf w i .up ≡ true → Turn w store i (timeout i (w .n) (w .commit) (w .abort) (siteOf w i))
   by-deliver :
-      (i k : ℕ) → k < w .rows → rowKnown (w .n) (getRow store k) ≡ true →
+      (i k : ℕ) → siteOf w i .up ≡ true → k < w .rows → rowKnown (w .n) (getRow store k) ≡ true →
       Turn w store i (deliver i (w .n) (isWilling w i) (getRow store k) (siteOf w i))
-  by-crash : (i : ℕ) → Turn w store i (crash i (siteOf w i))
-  by-recover : (i : ℕ) → Turn w store i (recover (siteOf w i))
+  by-crash : (i : ℕ) → siteOf w i .up ≡ true → Turn w store i (crash i (siteOf w i))
+  by-recover : (i : ℕ) → siteOf w i .up ≡ false → Turn w store i (recover i (siteOf w i))
 
 -- what a call that is not refused has made sure of
 pub record Granted (w : World) (store : List ℕ) (own : ℕ) (m : Move) : Type 0 where

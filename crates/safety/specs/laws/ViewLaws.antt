@@ -59,10 +59,10 @@ module _ (w : World) (store : List ℕ) (valid : validWorld w ≡ true) (room : 
       pick-ind (Seen w store) (siteOf w 0 .up)
       (pick (isActive (stateOf (siteOf w 0))) (enter w store at next 0 (start (w .n) (isWilling w 0) (siteOf w 0)))
       (refuse 14 w store at)) (refuse 12 w store at)
-      (λ _. pick-ind (Seen w store) (isActive (stateOf (siteOf w 0)))
+      (λ up. pick-ind (Seen w store) (isActive (stateOf (siteOf w 0)))
       (enter w store at next 0 (start (w .n) (isWilling w 0) (siteOf w 0))) (refuse 14 w store at)
       (λ active. seen-enter next 0 (start (w .n) (isWilling w 0) (siteOf w 0)) (omega (arith, valid-sized w valid))
-      (by-start active))
+      (by-start up active))
       (λ _. as-refused 14 at (omega arith)))
       (λ _. as-refused 12 at (omega arith))
 
@@ -74,7 +74,7 @@ module _ (w : World) (store : List ℕ) (valid : validWorld w ≡ true) (room : 
       (refuse 12 w store at)) (refuse 8 w store at)
       (λ below. pick-ind (Seen w store) (siteOf w i .up)
       (enter w store at next i (timeout i (w .n) (w .commit) (w .abort) (siteOf w i))) (refuse 12 w store at)
-      (λ _. seen-enter next i (timeout i (w .n) (w .commit) (w .abort) (siteOf w i)) (ltb-true i (w .n) below) (by-timeout i))
+      (λ up. seen-enter next i (timeout i (w .n) (w .commit) (w .abort) (siteOf w i)) (ltb-true i (w .n) below) (by-timeout i up))
       (λ _. as-refused 12 at (omega arith)))
       (λ _. as-refused 8 at (omega arith))
 
@@ -84,7 +84,7 @@ module _ (w : World) (store : List ℕ) (valid : validWorld w ≡ true) (room : 
       pick-ind (Seen w store) (ltb i (w .n))
       (pick (siteOf w i .up) (enter w store at next i (crash i (siteOf w i))) (refuse 12 w store at)) (refuse 8 w store at)
       (λ below. pick-ind (Seen w store) (siteOf w i .up) (enter w store at next i (crash i (siteOf w i))) (refuse 12 w store at)
-      (λ _. seen-enter next i (crash i (siteOf w i)) (ltb-true i (w .n) below) (by-crash i))
+      (λ up. seen-enter next i (crash i (siteOf w i)) (ltb-true i (w .n) below) (by-crash i up))
       (λ _. as-refused 12 at (omega arith)))
       (λ _. as-refused 8 at (omega arith))
 
@@ -92,10 +92,10 @@ module _ (w : World) (store : List ℕ) (valid : validWorld w ≡ true) (room : 
   unfolding recoverCall
   seen-recover next i =
       pick-ind (Seen w store) (ltb i (w .n))
-      (pick (siteOf w i .up) (refuse 13 w store at) (enter w store at next i (recover (siteOf w i)))) (refuse 8 w store at)
-      (λ below. pick-ind (Seen w store) (siteOf w i .up) (refuse 13 w store at) (enter w store at next i (recover (siteOf w i)))
+      (pick (siteOf w i .up) (refuse 13 w store at) (enter w store at next i (recover i (siteOf w i)))) (refuse 8 w store at)
+      (λ below. pick-ind (Seen w store) (siteOf w i .up) (refuse 13 w store at) (enter w store at next i (recover i (siteOf w i)))
       (λ _. as-refused 13 at (omega arith))
-      (λ _. seen-enter next i (recover (siteOf w i)) (ltb-true i (w .n) below) (by-recover i)))
+      (λ down. seen-enter next i (recover i (siteOf w i)) (ltb-true i (w .n) below) (by-recover i down)))
       (λ _. as-refused 8 at (omega arith))
 
   seen-row : (next k i : ℕ) → i < w .n → k < w .rows → Seen w store (deliverRow w store at next (getRow store k) i)
@@ -108,7 +108,7 @@ module _ (w : World) (store : List ℕ) (valid : validWorld w ≡ true) (room : 
       (λ known. pick-ind (Seen w store) (hasBit (getRow store k .destinations) i)
       (pick (siteOf w i .up) (enter w store at next i m) (refuse 12 w store at)) (refuse 11 w store at)
       (λ _. pick-ind (Seen w store) (siteOf w i .up) (enter w store at next i m) (refuse 12 w store at)
-      (λ _. seen-enter next i m below (by-deliver i k there known))
+      (λ up. seen-enter next i m below (by-deliver i k up there known))
       (λ _. as-refused 12 at (omega arith)))
       (λ _. as-refused 11 at (omega arith)))
       (λ _. as-refused 10 at (omega arith))

@@ -233,6 +233,10 @@ fn room() -> Vec<Case> {
             .full(),
         Case::new("0 full: CRASH", 0, Crash(0)).full(),
         Case::new("0 full: RECOVER", 0, Recover(4)).full(),
+        Case::new("0 full: RECOVER, empty log", 0, Recover(0))
+            .world(not_started)
+            .world(dark)
+            .full(),
         Case::new("0 the last row", 0, Timeout(0)).world(|w| w.row_count = MAX_ROWS - 1),
         Case::new("0 the last row", 0, deliver(5, 3)).world(|w| w.row_count = MAX_ROWS - 1),
     ];
@@ -261,8 +265,20 @@ fn rules() -> Vec<Case> {
         Case::new("0 START unwilling", 0, Start)
             .world(not_started)
             .world(|w| w.sizes.willing = 0b11110),
-        Case::new("0 RECOVER", 0, Recover(4)),
+        Case::new("0 RECOVER, empty log", 0, Recover(0))
+            .world(not_started)
+            .world(dark),
+        Case::new("0 RECOVER, empty log of a coordinator", 0, Recover(0))
+            .world(not_started)
+            .world(dark)
+            .world(leaders),
     ];
+    for site in 0..5 {
+        for edit in [(|_| ()) as Edit, divided, aborted, leaders] {
+            let recover = Case::new("0 RECOVER, a record", 0, Recover(site));
+            cases.push(recover.world(edit).world(dark));
+        }
+    }
     for site in 0..4 {
         for edit in [(|_| ()) as Edit, divided, not_started] {
             cases.push(Case::new("0 CRASH", 0, Crash(site)).world(edit));

@@ -8,7 +8,8 @@ use model::world::MAX_ROWS;
 use model::Command;
 
 use super::shared::{deliver, Done};
-use crate::common::{header, rows_of_site_0, three, M3_LIST, THREES_FOR_PREPARES};
+use crate::common::{header, rows_of_site_0, three};
+use crate::common::{M3_LIST, RESTART, THREES_FOR_PREPARES};
 use crate::comparer::{Comparer, Lengths, USUAL};
 
 use Command::{Crash, Recover, Start, Timeout};
@@ -21,6 +22,7 @@ fn days() -> Vec<Numbered> {
     let m4 = [Start, deliver(0, 1), deliver(1, 0)];
     let m5 = [Start, Crash(0), Recover(0), Timeout(0)];
     let m6 = [Start, deliver(0, 1), deliver(0, 1)];
+    let restarted_host = [Crash(0), Recover(0), Start];
     let mut cut = three(7, &[Start]);
     cut.extend([2, 0]);
     let full = rows_of_site_0(MAX_ROWS);
@@ -37,6 +39,8 @@ fn days() -> Vec<Numbered> {
         ("11 day M9", 11, three(7, &[Start, deliver(0, 0)])),
         ("13 day M10", 13, three(7, &[Recover(1)])),
         ("0 a 3 is no prepare", 0, three(7, &THREES_FOR_PREPARES)),
+        ("0 a restart before the vote", 0, three(7, &RESTART)),
+        ("14 a restart before START", 14, three(7, &restarted_host)),
         ("7 cut after one operand byte", 7, cut),
         ("0 row 1,023 as the 1,024th", 0, three(7, &full)),
         ("15 row 1,024 as the 1,025th", 15, three(7, &over)),

@@ -37,7 +37,7 @@ same-length c = search needs
 -- src/commands.rt:65:1
 returns-2 : tie.Need-returns-2
 unfolding Acts recoverCall worldOf
-returns-2 c = λ sites e. simp (e, c .before .before .before .before .before .if1 .left, lt-ltb _ _ (c .before .before .before .before .before .before .before .pre .1)) (rw (c .before .before .before .before .recover .ensures) at (c .before .before .enter .ensures ((recover (c .before .before .before .before .before .before .before .args .site)) .records) sites e))
+returns-2 c = λ sites e. simp (e, c .before .before .before .before .before .if1 .left, lt-ltb _ _ (c .before .before .before .before .before .before .before .pre .1)) (rw (c .before .before .before .before .recover .ensures) at (c .before .before .enter .ensures ((recover (c .before .before .before .before .before .before .before .args .own) (c .before .before .before .before .before .before .before .args .site)) .records) sites e))
 
 pub recover-spec : {M : Type 1} → statement M
 recover-spec =
