@@ -22,4 +22,5 @@ pub mod NeverOccurs
 pub mod FreshValid
 pub mod RunWorlds
 pub mod RunStores
+pub mod SiteView
 pub mod Restarts

@@ -105,9 +105,7 @@ impl Faulty {
             _ => {}
         }
     }
-}
 
-impl Faulty {
     /// RECOVER with an empty log.
     fn restart(&self, before: &World, world: &mut World, store: &mut [u8], me: usize) {
         let held = &before.sites[me];

@@ -1,13 +1,12 @@
 -- Theorem 7: a site that is down with an empty log never says yes afterwards.
-use Prim.Native.Nat.{ℕ, _+_, _≤_}
+use Prim.Native.Nat.{ℕ}
 use mathlib.Core.Bool.{true, false, true≢false}
 use mathlib.Core.List.{List, [], _∷_, _++_}
-use mathlib.Core.Path.{_≡_, refl, sym, ap, subst, _∙_}
+use mathlib.Core.Path.{_≡_, refl, sym, ap, _∙_}
 use native.Mathlib.Omega.{arith}
 use lib.Dec.{eqb}
 use Rattle.choice.specs.Choice.{pick}
 use Rattle.choice.specs.laws.ChoiceLaws.{pick-on}
-use Rattle.choice.specs.laws.Cases.{by-equal}
 use Rattle.site.specs.declared.Outcome.{Outcome}
 use Rattle.site.specs.declared.Outcome.the-variants as Outcome·
 use Rattle.site.specs.declared.Site.{Site}
@@ -16,38 +15,16 @@ use Rattle.site.specs.Fields.{withUp, withCoordinator, withOutcome, withCodes}
 use Rattle.site.specs.Records.{Written, wrote, outcomeRecord, abort, outcomeOf, recordCode, writeOutcome}
 use Rattle.rules.specs.Rules.{Move, silent, hear, restart, recover}
 use Rattle.world.specs.declared.World.{World}
-use Rattle.world.specs.Worlds.{siteOf, withSite, withRows}
-use Rattle.world.specs.laws.WorldLaws.{valid-sized, put-ind}
-use Rattle.play.specs.Calls.{Call, refuse, enterSilent, enterRow}
+use Rattle.world.specs.Worlds.{siteOf}
+use Rattle.play.specs.Calls.{Call}
 use Rattle.play.specs.Run.{Ask, run, callOf, afterCall}
 use Rattle.safety.specs.Claims.{writtenAt, Shaped, OnlyAborts, NeverVotesYes}
-use Rattle.safety.specs.laws.View.{Turn, by-start, by-timeout, by-deliver, by-crash, by-recover, Granted, Seen, as-refused, as-silent, as-row}
+use Rattle.safety.specs.laws.View.{Turn, by-start, by-timeout, by-deliver, by-crash, by-recover}
 use Rattle.safety.specs.laws.Turns.{Steady, active-undecided, turn-keeps}
-use Rattle.safety.specs.laws.Unchanging.{turn-only, other-site}
+use Rattle.safety.specs.laws.SiteView.{AtSite, stays, turns, seen-at}
 use Rattle.safety.specs.laws.Shape.{shaped-kept}
 use Rattle.safety.specs.laws.HistoryLaws.{at-append, at-own}
 use Rattle.safety.specs.laws.Runs.{seen}
-
--- a call as site j sees it: the site stays and writes nothing, or it has taken a turn
-data AtSite (w : World) (store : List ℕ) (j : ℕ) (site : Site) (records : List Written) : Type 0 where
-  stays : site ≡ siteOf w j → ((code : ℕ) → writtenAt j code records ≡ 0) → AtSite w store j site records
-  turns : (m : Move) → Turn w store j m → site ≡ m .step .site → records ≡ m .records → AtSite w store j site records
-
-moved-at :
-    (w : World) (store : List ℕ) (own j : ℕ) (m : Move) → Shaped w → Granted w store own m →
-    AtSite w store j (siteOf (withSite own (m .step .site) w) j) (m .records)
-moved-at w store own j m shaped g =
-    by-equal j own
-    (λ e. turns m (subst (λ i. Turn w store i m) (sym e) (g .turn))
-    (put-ind (λ s. s ≡ m .step .site) w own (m .step .site) j (omega (arith, shaped .sites, valid-sized w (g .valid)))
-    (λ _. refl) (λ other. absurd (other e))) refl)
-    (λ other. stays (other-site w own j (m .step .site) other) (λ code. turn-only w store own m (g .turn) j code other))
-
-seen-at : (w : World) (store : List ℕ) (j : ℕ) (c : Call) → Shaped w → Seen w store c → AtSite w store j (siteOf (c .world) j) (c .records)
-unfolding refuse enterSilent enterRow siteOf withRows writtenAt
-seen-at w store j c shaped (as-refused number place other) = stays refl (λ code. refl)
-seen-at w store j c shaped (as-silent next own m g none) = moved-at w store own j m shaped g
-seen-at w store j c shaped (as-row next own m g some room) = moved-at w store own j m shaped g
 
 -- a site with outcome o, which has written nothing since
 Decided : Outcome → Site → List Written → Type 0
