@@ -56,7 +56,8 @@
  *   RECOVER    empty log        up, subordinate; writes abort, sends nothing; its codes of other sites stay. (Document 01 had it active as at the
  *                               start, and so did version 1. Document 02 corrected that: it has lost what it knew, and must not say yes to a round
  *                               that it no longer has. So where site 0 restarts before START, START is 14.)
- *              any record       up; nothing else. The next TIMEOUT makes it coordinator
+ *              any record       up; nothing else
+ *              either way       the next TIMEOUT makes it coordinator, and it sends the command of its state
  *
  * There is room for QC_ROWS rows, and none is ever given back. Each TIMEOUT of a site that is not active spends one, even where nothing has
  * arrived since the last; so 15 (QC_STORE_FULL) can end a competition undecided. A caller should let replies arrive before it lets a site time out.

@@ -1,4 +1,4 @@
-/* Plays lists through the library and holds what the header's readers say to what document 01 works out by hand.
+/* Plays lists through the library and holds what the header's readers say to what documents 01 and 02 give, worked out by hand.
  * Exits 0 if all is as it should be, 1 after the first difference. Also checked as C++.
  */
 #include <stdio.h>
@@ -181,7 +181,7 @@ static void short_lists(void)
 static void restarts(void)
 {
     static const uint8_t voted[] = {HEADER(3, 2, 2, 7, 0), START, CRASH(1), RECOVER(1), DELIVER(0, 1), DELIVER(1, 0)};
-    static const uint8_t host[] = {HEADER(3, 2, 2, 7, 0), CRASH(0), RECOVER(0), START};
+    static const uint8_t before_start[] = {HEADER(3, 2, 2, 7, 0), CRASH(0), RECOVER(0), START};
     CHECK(play(voted, 10), QC_ACCEPTED);
     CHECK(qc_row_count(world), 1);
     CHECK_TEXT(site_line(1), "1 up subordinate aborted --a 050");
@@ -189,11 +189,12 @@ static void restarts(void)
     CHECK_TEXT(site_line(0), "0 up coordinator aborted P-a 550");
     CHECK_TEXT(site_line(1), "1 up subordinate aborted --a 150");
     CHECK_ROW(1, QC_VOTE, 1, 1, "150");
-    CHECK_PLAY(host, QC_STARTED, 2, 9);
+    CHECK_PLAY(before_start, QC_STARTED, 2, 9);
     CHECK_TEXT(site_line(0), "0 up subordinate aborted --a 500");
 }
 
-/* Site 1 as a world may be handed in: down, coordinator, knowing 1, its own code and 3; with an empty log, and with a prepare record. */
+/* Site 1 as a world may be handed in: down, coordinator, knowing 1, its own code and 4; with an empty log, which aborts all the same, and with a
+ * prepare record. */
 static void restarts_of_a_coordinator(void)
 {
     static const uint8_t recover[] = {RECOVER(1)};
@@ -207,10 +208,10 @@ static void restarts_of_a_coordinator(void)
         site[2] = (uint8_t)record;
         site[8] = QC_PREPARED;
         site[9] = record ? QC_PREPARED : QC_ACTIVE;
-        site[10] = QC_ABORT_GROUP;
+        site[10] = QC_COMMITTED;
         CHECK(qc_play_command(world, sizeof world, store, sizeof store, recover, sizeof recover, 0, result, sizeof result), QC_ACCEPTED);
         CHECK(qc_row_count(world), 0);
-        CHECK_TEXT(site_line(1), record ? "1 up coordinator prepared P-- 113" : "1 up subordinate aborted --a 153");
+        CHECK_TEXT(site_line(1), record ? "1 up coordinator prepared P-- 114" : "1 up subordinate aborted --a 154");
     }
 }
 

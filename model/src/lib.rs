@@ -1,6 +1,6 @@
 //! An independent model of the quorum commitment player for inter-club sheets.
 //!
-//! The rules, the checks and the report are written from document 01, with
+//! The rules, the checks and the report are written from documents 01 and 02, with
 //! mutable state and plain Rust, so that another player can be compared with
 //! them. Only layout.rs and calls.rs follow docs/LAYOUT.md: they say how a
 //! world and the answers cross to C.

@@ -124,7 +124,8 @@ impl Actor<'_> {
     }
 
     /// RECOVER of this site. With nothing on stable storage it does not know
-    /// what it may have missed, so it aborts, and tells nobody.
+    /// what it may have missed, so it aborts, and tells nobody: document 02
+    /// corrects document 01, which has it active.
     fn recover(&mut self) {
         self.site.up = true;
         if self.site.log == Log::EMPTY {

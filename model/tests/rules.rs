@@ -243,10 +243,10 @@ fn a_restart_with_an_empty_log_aborts() {
         let down = Site {
             up: false,
             role,
-            ..site(false, None, None, [1, 0, 3, 5])
+            ..site(false, None, None, [4, 0, 3, 1])
         };
         let (up, sent) = after(down, None, Command::Recover(1));
-        assert_eq!(up, site(false, None, Some(Side::Abort), [1, 5, 3, 5]));
+        assert_eq!(up, site(false, None, Some(Side::Abort), [4, 5, 3, 1]));
         assert_eq!(sent, None);
     }
 }

@@ -1,6 +1,6 @@
 /* Cases just inside and just outside of every number, as tables: what the tables share.
  *
- * What a case must give is worked out by hand from document 01, and it is played through the C functions. A refused command or report must
+ * What a case must give is worked out by hand from documents 01 and 02, and it is played through the C functions. A refused command or report must
  * leave every buffer as it was. A difference is told with the case's name, and ends the program.
  */
 #ifndef CASES_H

@@ -49,7 +49,6 @@ static const struct command_case sites[] = {
     {"12 CRASH of another passes", {DOWN(2)}, {BYTES(4, 1), 0, 0, 2}},
     {"13 RECOVER while up", FRESH, {BYTES(5, 1), 0, 13, 0}},
     {"13 RECOVER while down passes", {DOWN(1)}, {BYTES(5, 1), 0, 0, 2}},
-    {"13 RECOVER while down with a record passes", {DOWN(1), PREPARED(1), CODE(1, 1, QC_PREPARED)}, {BYTES(5, 1), 0, 0, 2}},
     {"13 RECOVER while another is down", {DOWN(2)}, {BYTES(5, 1), 0, 13, 0}},
     {"14 START while site 0 is active passes", FRESH, {BYTES(1), 0, 0, 1}},
     {"14 START while site 0 is aborted", {ABORTED}, {BYTES(1), 0, 14, 0}},

@@ -1,4 +1,4 @@
-/* Numbers 1 to 7 and 12 to 16 of a whole list. */
+/* Numbers of a whole list: 1 to 7, 15 and 16, and those that a restart leads to. */
 #include <string.h>
 
 #include "cases.h"
@@ -71,14 +71,13 @@ static const struct list_case commands[] = {
     {"7 START has no operand", BYTES(HEADER, 1), 0, 1, 6},
 };
 
-/* A site that restarts with an empty log has aborted, and is up. */
+/* A site that restarts with an empty log has aborted: no START, and its next TIMEOUT sends the outcome. */
 static const struct list_case restarts[] = {
     {"14 START after a restart of site 0", BYTES(HEADER, 4, 0, 5, 0, 1), 14, 2, 9},
     {"14 START after a restart of site 1 passes", BYTES(HEADER, 4, 1, 5, 1, 1), 0, 3, 10},
-    {"14 START after a restart with a prepare record", BYTES(HEADER, 1, 4, 0, 5, 0, 1), 14, 3, 10},
-    {"12 START before the restart", BYTES(HEADER, 4, 0, 1), 12, 1, 7},
     {"13 a second RECOVER", BYTES(HEADER, 4, 1, 5, 1, 5, 1), 13, 2, 9},
-    {"9 a restart sends no row", BYTES(HEADER, 4, 1, 5, 1, 2, 0, 0, 0), 9, 2, 9},
+    {"9 no row after a restart", BYTES(HEADER, 4, 1, 5, 1, 2, 0, 0, 0), 9, 2, 9},
+    {"9 a row after a restart and TIMEOUT passes", BYTES(HEADER, 4, 1, 5, 1, 3, 1, 2, 0, 0, 0), 0, 4, 15},
 };
 
 static void play(const struct list_case *one)

@@ -1,6 +1,7 @@
 -- THE DAYS AT THREE CLUBS marked M in document 01, "Days at three clubs": each list of bytes, and what playing it is to show. Not among
--- them: T1 plays a temptation, R1 to R3 are restarts. Written from the papers. n = 3, C = A = 2, all willing (bits 7) unless said. A
--- report's site line is: number, up or down, role, state, log, n codes. A row is: kind, sender, destinations, codes.
+-- them: T1 plays a temptation; R1 to R3 are restarts, for request (i) of document 02. Written from the papers. n = 3, C = A = 2, all
+-- willing (bits 7) unless said. A report's site line is: number, up or down, role, state, log, n codes. A row is: kind, sender,
+-- destinations, codes.
 use Prim.Native.Nat.{ℕ}
 use mathlib.Core.List.{List, [], _∷_, _++_}
 use Rattle.site.specs.Records.{wrote, prepareRecord, groupRecord, outcomeRecord, abort}
@@ -303,7 +304,7 @@ T1 =
           };
     }
 
--- R1 a site that restarts before it has voted (document 02, request (i)): START, CRASH 1, RECOVER 1: `--a`, codes 050, no further row
+-- R1 a site that restarts before it has voted: START, CRASH 1, RECOVER 1: `--a`, codes 050, no further row
 unfoldable pub R1 : Day
 R1 =
     record {

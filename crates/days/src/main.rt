@@ -1,4 +1,4 @@
-// Plays the worked days of document 01, and those of document 02's requests.
+// Plays the worked days of document 01, and days for the requests of document 02.
 // One line for each case: its name, and ok or what came instead.
 mod day;
 mod marked;

@@ -1,4 +1,4 @@
-// Days of document 02, request (i): a site that restarts before it has voted, each by its whole report.
+// Days for request (i) of document 02: a site that restarts before it has voted, each by its whole report.
 use crate::day::day;
 
 // START, CRASH 1, RECOVER 1; the same, then row 0 to 1 and its vote, row 1, to 0; CRASH 0, RECOVER 0, START.

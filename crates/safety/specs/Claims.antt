@@ -152,6 +152,11 @@ pub record Beyond (w : World) (store : List ℕ) (r : Ran) : Type 0 where
 abbrev pub RunsKeepBeyond : Type 0
 RunsKeepBeyond = (w : World) (store : List ℕ) (asks : List Ask) → Beyond w store (run w store asks)
 
+-- site j is down, and its log is empty
+pub record DownEmpty (w : World) (j : ℕ) : Type 0 where
+  pub down : siteOf w j .up ≡ false
+  pub empty : isActive (stateOf (siteOf w j)) ≡ true
+
 -- of site j a history holds at most an abort record: no prepare, no group, no commit
 pub record OnlyAborts (j : ℕ) (H : List Written) : Type 0 where
   pub no-prepare : writtenAt j 1 H ≡ 0
@@ -159,8 +164,24 @@ pub record OnlyAborts (j : ℕ) (H : List Written) : Type 0 where
   pub no-commit : writtenAt j 4 H ≡ 0
   pub one-abort : writtenAt j 5 H ≤ 1
 
--- THEOREM 7: a site that is down with an empty log never says yes afterwards: over every list of calls, from any world and store
-abbrev pub NeverVotesYes : Type 0
-NeverVotesYes =
-    (w : World) (store : List ℕ) (asks : List Ask) (j : ℕ) → Shaped w → siteOf w j .up ≡ false →
-    isActive (stateOf (siteOf w j)) ≡ true → OnlyAborts j (run w store asks .records)
+-- THEOREM 7: what a site that is down with an empty log writes over every list of calls, from any world of the type's shape and any store
+abbrev pub RestartOnlyAborts : Type 0
+RestartOnlyAborts =
+    (w : World) (store : List ℕ) (asks : List Ask) (j : ℕ) → Shaped w → DownEmpty w j → OnlyAborts j (run w store asks .records)
+
+-- a vector shows site j neither prepared nor in a group nor committed
+pub record NoYes (j : ℕ) (v : List ℕ) : Type 0 where
+  pub none : 1 ≤ getD v j 0 → getD v j 0 ≤ 4 → ⊥
+
+-- the calls that follow a run
+abbrev pub runOn : Ran → List Ask → Ran
+runOn r asks = run (r .world) (r .store) asks
+
+-- THEOREM 8: a site that was down with an empty log after any list of calls from the maker's world has never said yes, and never will: after
+-- any calls that follow, no row, whoever sent it and whenever, shows it prepared
+abbrev pub NeverSaysYes : Type 0
+NeverSaysYes =
+    (n : ℕ) (c : CommitQuorum) (a : AbortQuorum) (willing : ℕ) (store : List ℕ) (first rest : List Ask) (j k : ℕ) → j < n →
+    DownEmpty (freshRun n c a willing store first .world) j →
+    k < runOn (freshRun n c a willing store first) rest .world .rows →
+    NoYes j (getRow (runOn (freshRun n c a willing store first) rest .store) k .codes)

@@ -24,3 +24,4 @@ pub mod RunWorlds
 pub mod RunStores
 pub mod SiteView
 pub mod Restarts
+pub mod NeverYes

@@ -116,8 +116,9 @@ const CLAUSES: &[&str] = &[
     "18 buffer too short",
 ];
 
-/// Both sorts of RECOVER that document 02 tells apart, and what it says of a
-/// world that is handed in. Each must be hit by a call made by hand for it.
+/// Both sorts of RECOVER that document 02 tells apart; the coordinator that is
+/// down, which only a world handed in can have; and that none needs room. Each
+/// must be hit by a call made by hand for it.
 const RECOVERIES: &[&str] = &[
     "0 RECOVER, a record",
     "0 RECOVER, empty log",

@@ -1,4 +1,4 @@
--- Theorem 7: a site that is down with an empty log never says yes afterwards.
+-- Theorem 7: a site that is down with an empty log writes one abort record at most.
 use Prim.Native.Nat.{ℕ}
 use mathlib.Core.Bool.{true, false, true≢false}
 use mathlib.Core.List.{List, [], _∷_, _++_}
@@ -18,7 +18,7 @@ use Rattle.world.specs.declared.World.{World}
 use Rattle.world.specs.Worlds.{siteOf}
 use Rattle.play.specs.Calls.{Call}
 use Rattle.play.specs.Run.{Ask, run, callOf, afterCall}
-use Rattle.safety.specs.Claims.{writtenAt, Shaped, OnlyAborts, NeverVotesYes}
+use Rattle.safety.specs.Claims.{writtenAt, Shaped, OnlyAborts, RestartOnlyAborts}
 use Rattle.safety.specs.laws.View.{Turn, by-start, by-timeout, by-deliver, by-crash, by-recover}
 use Rattle.safety.specs.laws.Turns.{Steady, active-undecided, turn-keeps}
 use Rattle.safety.specs.laws.SiteView.{AtSite, stays, turns, seen-at}
@@ -135,13 +135,14 @@ unvoted-then j site records later (aborted o e) again over =
 abort-not-none : Outcome·.Abort ≡ Outcome·.None → ⊥
 abort-not-none e = let z : _≡_ {A = ℕ} 0 1 = cc in absurd (omega arith)
 
-pub never-votes-yes : NeverVotesYes
+pub restart-only-aborts : RestartOnlyAborts
 unfolding run afterCall callOf writtenAt
-never-votes-yes w store [] j shaped down empty =
+restart-only-aborts w store [] j shaped d =
     record { no-prepare = refl; no-group = refl; no-commit = refl; one-abort = omega arith }
-never-votes-yes w store (a ∷ asks) j shaped down empty =
+restart-only-aborts w store (a ∷ asks) j shaped d =
     let c : Call = callOf w store a in
     unvoted-then j (siteOf (c .world) j) (c .records) (run (c .world) (c .store) asks .records)
-    (unvoted-at w store j (siteOf (c .world) j) (c .records) down empty (seen-at w store j c shaped (seen w store a)))
-    (never-votes-yes (c .world) (c .store) asks j (shaped-kept w store (a .list) (a .place) shaped))
+    (unvoted-at w store j (siteOf (c .world) j) (c .records) (d .down) (d .empty) (seen-at w store j c shaped (seen w store a)))
+    (λ down empty. restart-only-aborts (c .world) (c .store) asks j (shaped-kept w store (a .list) (a .place) shaped)
+    (record { down = down; empty = empty }))
     (λ o. settled-run (c .world) (c .store) asks j Outcome·.Abort (shaped-kept w store (a .list) (a .place) shaped) abort-not-none o)

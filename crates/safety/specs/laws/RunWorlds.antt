@@ -5,7 +5,10 @@ use mathlib.Core.List.{List, [], _∷_}
 use mathlib.Core.Path.{_≡_}
 use native.Mathlib.Omega.{arith}
 use Rattle.choice.specs.laws.Cases.{by-equal}
+use Rattle.site.specs.declared.CommitQuorum.{CommitQuorum}
+use Rattle.site.specs.declared.AbortQuorum.{AbortQuorum}
 use Rattle.world.specs.declared.World.{World}
+use Rattle.world.specs.Sizes.{sizesNumber}
 use Rattle.world.specs.Worlds.{freshWorld, siteOf}
 use Rattle.world.specs.Valid.{validWorld}
 use Rattle.world.specs.laws.WorldLaws.{valid-parts, valid-sized}
@@ -19,9 +22,9 @@ use Rattle.safety.specs.laws.Validity.{valid-stays-valid}
 use Rattle.safety.specs.laws.FreshValid.{fresh-valid}
 
 -- a world of sixteen sites that passes 17
-record Whole (w : World) : Type 0 where
-  shaped : Shaped w
-  valid : validWorld w ≡ true
+pub record Whole (w : World) : Type 0 where
+  pub shaped : Shaped w
+  pub valid : validWorld w ≡ true
 
 call-whole : (w : World) (store : List ℕ) (a : Ask) → Whole w → Whole (callOf w store a .world)
 unfolding callOf
@@ -51,8 +54,13 @@ whole-passes w whole =
       none-beyond = λ j k h past few. sound j h .codes .at k few .none past;
     }
 
+pub fresh-whole :
+    (n : ℕ) (c : CommitQuorum) (a : AbortQuorum) (willing : ℕ) (store : List ℕ) (asks : List Ask) →
+    sizesNumber n c a willing ≡ 0 → Whole (run (freshWorld n c a willing) store asks .world)
+fresh-whole n c a willing store asks e =
+    run-whole (freshWorld n c a willing) store asks
+    (record { shaped = shaped-fresh n c a willing; valid = fresh-valid n c a willing e })
+
 pub runs-pass : RunsPass
 runs-pass n c a willing store asks e =
-    whole-passes (run (freshWorld n c a willing) store asks .world)
-    (run-whole (freshWorld n c a willing) store asks
-    (record { shaped = shaped-fresh n c a willing; valid = fresh-valid n c a willing e }))
+    whole-passes (run (freshWorld n c a willing) store asks .world) (fresh-whole n c a willing store asks e)

@@ -80,6 +80,12 @@ fn not_started(w: &mut World) {
     site.vector.set(0, State::Active);
 }
 
+/// Site 0 as before START, but for having heard of a commit.
+fn told_of_commit(w: &mut World) {
+    not_started(w);
+    w.sites[0].vector.set(2, State::Terminated(Side::Commit));
+}
+
 /// Site 0 has aborted without a START.
 fn aborted(w: &mut World) {
     not_started(w);
@@ -267,6 +273,9 @@ fn rules() -> Vec<Case> {
             .world(|w| w.sizes.willing = 0b11110),
         Case::new("0 RECOVER, empty log", 0, Recover(0))
             .world(not_started)
+            .world(dark),
+        Case::new("0 RECOVER, empty log", 0, Recover(0))
+            .world(told_of_commit)
             .world(dark),
         Case::new("0 RECOVER, empty log of a coordinator", 0, Recover(0))
             .world(not_started)

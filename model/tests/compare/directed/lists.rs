@@ -22,7 +22,7 @@ fn days() -> Vec<Numbered> {
     let m4 = [Start, deliver(0, 1), deliver(1, 0)];
     let m5 = [Start, Crash(0), Recover(0), Timeout(0)];
     let m6 = [Start, deliver(0, 1), deliver(0, 1)];
-    let restarted_host = [Crash(0), Recover(0), Start];
+    let before_start = [Crash(0), Recover(0), Start];
     let mut cut = three(7, &[Start]);
     cut.extend([2, 0]);
     let full = rows_of_site_0(MAX_ROWS);
@@ -40,7 +40,7 @@ fn days() -> Vec<Numbered> {
         ("13 day M10", 13, three(7, &[Recover(1)])),
         ("0 a 3 is no prepare", 0, three(7, &THREES_FOR_PREPARES)),
         ("0 a restart before the vote", 0, three(7, &RESTART)),
-        ("14 a restart before START", 14, three(7, &restarted_host)),
+        ("14 a restart before START", 14, three(7, &before_start)),
         ("7 cut after one operand byte", 7, cut),
         ("0 row 1,023 as the 1,024th", 0, three(7, &full)),
         ("15 row 1,024 as the 1,025th", 15, three(7, &over)),
