@@ -2,8 +2,8 @@
  * finish without it, and it learns the outcome when it is back. On the way messages are lost, repeated and late, as a seed has it:
  *   cc -Wall -Wextra -Werror -Iinclude examples/club.c target/staticlib/libquorum.a -o target/club && target/club 7
  *
- * Prints the report of the world at the end. Exit status: 0 all sites that are up have the same outcome; 1 they do not; 2 a command or the report
- * was refused, or the seed is not a number.
+ * Prints the report of the world at the end, then how many messages were delivered and how many of them told their site nothing new. Exit status: 0 all
+ * sites that are up have the same outcome; 1 they do not; 2 a command or the report was refused, or the seed is not a number.
  */
 #include <stdio.h>
 #include <stdlib.h>
@@ -27,6 +27,7 @@ struct competition {
     uint8_t list[QC_LIST_BYTES]; /* the header and every command so far: a list that could be played again */
     size_t length;
     size_t events;
+    unsigned deliveries, idle; /* idle: the delivery told its site nothing new of the others */
     struct message mail[QC_ROWS * (SITES - 1)]; /* in no order, so any message may be late */
     unsigned mail_count;
     uint64_t random;
@@ -109,7 +110,12 @@ static void play_at(struct competition *c, enum qc_command command, unsigned sit
 static void deliver(struct competition *c, struct message m)
 {
     const uint8_t bytes[4] = {QC_DELIVER, (uint8_t)(m.row & 0xff), (uint8_t)(m.row >> 8), (uint8_t)m.site};
+    uint32_t news = qc_news(c->world);
+
     play(c, bytes, sizeof bytes);
+    c->deliveries++;
+    if (qc_news(c->world) == news)
+        c->idle++;
 }
 
 /* One of the messages under way, an old or a new one, is lost or arrives, and may stay to arrive again. */
@@ -209,6 +215,7 @@ static void print_report(const struct competition *c)
 
     stop_if_refused(qc_report(c->world, sizeof c->world, c->events, QC_ACCEPTED, c->length, text, sizeof text, result, sizeof result), "report");
     fwrite(text, 1, (size_t)qc_result_length(result), stdout);
+    printf("delivered %u idle %u\n", c->deliveries, c->idle);
 }
 
 int main(int argc, char **argv)

@@ -13,7 +13,8 @@
  *   write (not const) overlaps no other buffer of that call. Nothing else is asked: any bytes, lengths and numbers may be handed in.
  * - Numbers in buffers have their low byte first. A world is QC_WORLD_BYTES bytes, laid out as docs/LAYOUT.md says; a C program need only keep
  *   it and hand it back.
- * - The answer is QC_ACCEPTED, or the number of the first check that failed. They are made in the order 16, 17, 1 to 15, 18.
+ * - The answer is QC_ACCEPTED, or the number of the first check that failed. They are made in the order 16, 17, 1 to 15, 18; last of all, for a
+ *   delivery, 17 again (see NEWS).
  *
  * A list is a header of QC_HEADER_BYTES bytes and then commands:
  *     header      n, the number of sites; C, the commit quorum; A, the abort quorum; the willing sites as 16 bits, bit i for site i
@@ -61,6 +62,11 @@
  *
  * There is room for QC_ROWS rows, and none is ever given back. Each TIMEOUT of a site that is not active spends one, even where nothing has
  * arrived since the last; so 15 (QC_STORE_FULL) can end a competition undecided. A caller should let replies arrive before it lets a site time out.
+ *
+ * NEWS. A world knows how many codes its sites have taken from rows, over all accepted deliveries; a site's own code is never among them. A delivery
+ * that does not raise this number was idle: it told its site nothing new of the others (the site may still have written a record or replied). What a
+ * CRASH makes a site forget is not taken off, and counts again when it is told again. No call leaves more than QC_NEWS: a world handed in with more is
+ * 17, and so is, after all other checks, a delivery that would pass it. No list is long enough for that.
  */
 #ifndef QUORUM_H
 #define QUORUM_H
@@ -68,13 +74,15 @@
 #include <stddef.h>
 #include <stdint.h>
 
-/* The major number goes up when a program may have to change, the minor one when something is added. */
-#define QC_VERSION_MAJOR 2
+/* The major number goes up when a program may have to change, the minor one when something is added. Version 3: a world has its news (layout 2),
+ * and the report's first line ends with it. */
+#define QC_VERSION_MAJOR 3
 #define QC_VERSION_MINOR 0
-#define QC_LAYOUT 1 /* of a world's bytes: its first byte */
+#define QC_LAYOUT 2 /* of a world's bytes: its first byte */
 
 #define QC_SITES 16          /* site records of a world, and codes of a row */
 #define QC_ROWS 1024         /* rows: at most */
+#define QC_NEWS 491520       /* news: at most */
 #define QC_HEADER_BYTES 5    /* a list's header */
 #define QC_LIST_BYTES 32768  /* a whole list: at most */
 #define QC_ROW_BYTES 20      /* a row */
@@ -84,7 +92,8 @@
 #define QC_RESULT_BYTES 8    /* a result: exactly */
 
 /* Every answer: its name, number and meaning. 17 is a world or result of another length than it must have, a world's bytes outside the layout, a
- * world whose values do not fit together, and for the report also an event count, place or number out of its range. */
+ * world whose values do not fit together or whose news is over 491,520, for the report also an event count, place or number out of its range, and,
+ * checked last, after 15, a delivery that would bring the news over 491,520. */
 #define QC_ANSWERS(answer)                                                                                      \
     answer(QC_ACCEPTED, 0, "accepted")                                                                          \
     answer(QC_LIST_LONG, 1, "the list is longer than 32,768 bytes")                                             \
@@ -103,7 +112,7 @@
     answer(QC_STARTED, 14, "START while site 0 is not active")                                                  \
     answer(QC_STORE_FULL, 15, "a row is to be added and 1,024 are there")                                       \
     answer(QC_STORE_SHORT, 16, "the store is shorter than 20,480 bytes")                                        \
-    answer(QC_BAD_WORLD, 17, "a length, byte or value of the world, the result or the report numbers is wrong") \
+    answer(QC_BAD_WORLD, 17, "the world, the result or a report number is wrong, or news would pass 491,520")   \
     answer(QC_REPORT_SHORT, 18, "the report buffer is shorter than 1,024 bytes")
 
 #define QC_ENTRY(name, number, text) name = number,
@@ -159,15 +168,15 @@ uint32_t qc_play_list(const uint8_t *list, size_t list_length,
  * world:  the world before, as an earlier call left it (for a first world play a header alone with qc_play_list); gets the world after.
  * store:  as the earlier call left it; gets the row that the command sends, if any.
  * result: bytes 0 to 7 get the place after the command's operands, 64 bits: where the next command stands.
- * Gives 0 if accepted; else 16, 17, or 6 to 15, and no buffer is touched. */
+ * Gives 0 if accepted; else 16, 17, 6 to 15, or 17 for a delivery that would pass QC_NEWS, and no buffer is touched. */
 uint32_t qc_play_command(uint8_t *world, size_t world_length,
                          uint8_t *store, size_t store_length,
                          const uint8_t *list, size_t list_length,
                          size_t at,
                          uint8_t *result, size_t result_length);
 
-/* Write the report of a world as text: a line of sizes, a line for each site, and `end PLACE`, or `refused NUMBER at PLACE` where number is not
- * 0. Lines end with a newline byte; there is no zero byte at the end.
+/* Write the report of a world as text: a line of sizes and counts, a line for each site, and `end PLACE`, or `refused NUMBER at PLACE` where number
+ * is not 0. Lines end with a newline byte; there is no zero byte at the end.
  * events, number, place: what qc_play_list gave; events and place at most 32,768, number at most 18.
  * buffer: may hold anything; gets the text from its beginning, and is left as it was beyond it.
  * result: bytes 0 to 7 get the text's length, 64 bits (at most 1,024).

@@ -79,6 +79,12 @@ static inline unsigned qc_row_count(const uint8_t *world)
     return qc_number16(world + 8);
 }
 
+/* The news: how many codes sites have taken from rows, over all accepted deliveries. A delivery that does not raise it was idle (quorum.h, NEWS). */
+static inline uint32_t qc_news(const uint8_t *world)
+{
+    return qc_number32(world + 10);
+}
+
 /* A world's sites. */
 
 /* The first byte of a site's record. */

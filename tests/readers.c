@@ -103,6 +103,7 @@ static void fresh_worlds(void)
     CHECK_PLAY(m1, QC_ACCEPTED, 0, 5);
     CHECK(world[0], QC_LAYOUT);
     CHECK(qc_row_count(world), 0);
+    CHECK(qc_news(world), 0);
     CHECK_TEXT(site_line(2), "2 up subordinate active --- 000");
     CHECK(qc_site_up(world, 3), 0);
     CHECK_PLAY(uneven, QC_ACCEPTED, 0, 5);
@@ -121,6 +122,7 @@ static void an_abort(void)
     CHECK_PLAY(m3, QC_ACCEPTED, 7, 26);
     CHECK(qc_site_count(world), 3);
     CHECK(qc_row_count(world), 5);
+    CHECK(qc_news(world), 5);
     CHECK_TEXT(site_line(0), "0 up coordinator aborted PAa 513");
     CHECK_TEXT(site_line(1), "1 up subordinate prepared P-- 110");
     CHECK_TEXT(site_line(2), "2 up subordinate abort-group -A- 313");
@@ -142,6 +144,7 @@ static void a_commit(void)
     static const uint8_t list[] = {HEADER(3, 2, 2, 7, 0), START,         DELIVER(0, 1), DELIVER(0, 2), DELIVER(1, 0), DELIVER(2, 0),
                                    TIMEOUT(0),            DELIVER(3, 1), DELIVER(4, 0), TIMEOUT(0),    DELIVER(5, 1)};
     CHECK_PLAY(list, QC_ACCEPTED, 10, 38);
+    CHECK(qc_news(world), 8);
     CHECK_TEXT(site_line(0), "0 up coordinator committed PCc 421");
     CHECK_TEXT(site_line(1), "1 up subordinate committed PCc 441");
     CHECK_TEXT(site_line(2), "2 up subordinate prepared P-- 101");
@@ -170,6 +173,7 @@ static void short_lists(void)
     CHECK_ROW(1, QC_PREPARE, 0, 6, "100");
     CHECK_PLAY(m6, QC_ACCEPTED, 3, 14);
     CHECK(qc_row_count(world), 3);
+    CHECK(qc_news(world), 1);
     CHECK_TEXT(site_line(1), "1 up subordinate prepared P-- 110");
     CHECK_ROW(2, QC_VOTE, 1, 1, "110");
     CHECK_PLAY(m7, QC_ACCEPTED, 1, 7);
@@ -287,7 +291,7 @@ static void one_at_a_time(void)
 /* The report of M3; and 17 for the world that 16 and 1 to 5 leave. */
 static void reports(void)
 {
-    static const char wanted[] = "sites 3 commit 2 abort 2 events 7 rows 5\n0 up coordinator aborted PAa 513\n"
+    static const char wanted[] = "sites 3 commit 2 abort 2 events 7 rows 5 news 5\n0 up coordinator aborted PAa 513\n"
                                  "1 up subordinate prepared P-- 110\n2 up subordinate abort-group -A- 313\nend 26\n";
     CHECK(play(m3, sizeof m3), QC_ACCEPTED);
     CHECK(qc_report(world, sizeof world, 7, 0, 26, text, sizeof text, result, sizeof result), QC_ACCEPTED);
@@ -303,11 +307,14 @@ static void reports(void)
 static void numbers(void)
 {
     static const uint8_t bytes[] = {1, 2, 3, 4, 5, 6, 7, 0xf8};
+    static const uint8_t head[] = {QC_LAYOUT, 3, 2, 0, 2, 0, 7, 0, 9, 0, 1, 2, 3, 0xf4, 0, 0};
     CHECK(qc_number16(bytes + 6), 0xf807);
     CHECK(qc_result_events(bytes), 0x04030201);
     CHECK(qc_result_place(bytes), 0xf8070605);
     CHECK(qc_result_next_place(bytes), 0xf807060504030201u);
     CHECK(qc_result_length(bytes), 0xf807060504030201u);
+    CHECK(qc_news(head), 0xf4030201);
+    CHECK(QC_NEWS, 15 * QC_LIST_BYTES);
 }
 
 /* Every answer has a text of its own, and no other number has one. */

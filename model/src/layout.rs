@@ -1,7 +1,7 @@
 //! The world as bytes, the way it crosses to C: docs/LAYOUT.md.
 //!
 //! 656 bytes: a head of 16, then 40 for each of the sixteen sites. Numbers of
-//! two bytes have the low byte first.
+//! more than one byte have the low byte first.
 
 use std::ops::Range;
 
@@ -19,7 +19,9 @@ pub const HEAD_BYTES: usize = 16;
 /// Bytes of a site.
 pub const SITE_BYTES: usize = 40;
 /// The layout's own number, the first byte.
-pub const LAYOUT: u8 = 1;
+pub const LAYOUT: u8 = 2;
+/// The news in the head.
+pub const NEWS: Range<usize> = 10..14;
 /// A site's codes, seen from the site's first byte.
 pub const CODES: Range<usize> = 8..24;
 /// The codes of its group record.
@@ -43,6 +45,7 @@ pub fn update(bytes: &mut [u8], world: &World) {
     bytes[4..6].copy_from_slice(&word(sizes.abort_quorum));
     bytes[6..8].copy_from_slice(&sizes.willing.to_le_bytes());
     bytes[8..10].copy_from_slice(&word(world.row_count));
+    bytes[NEWS].copy_from_slice(&double_word(world.news));
     let places = bytes[HEAD_BYTES..].chunks_exact_mut(SITE_BYTES);
     for (place, site) in places.zip(world.members()) {
         encode_site(place, site);
@@ -76,6 +79,7 @@ pub fn decode(bytes: &[u8]) -> Result<World, u8> {
     let mut world = World {
         sizes,
         row_count: word_at(bytes, 8).into(),
+        news: double_word_at(bytes, NEWS.start) as usize,
         ..World::ZEROS
     };
     for (site, place) in world.sites.iter_mut().zip(sites(bytes)).take(sizes.n) {
@@ -114,7 +118,7 @@ fn decode_site(bytes: &[u8]) -> Option<Site> {
 fn is_inside(bytes: &[u8]) -> bool {
     bytes.len() == WORLD_BYTES
         && bytes[0] == LAYOUT
-        && bytes[10..HEAD_BYTES].iter().all(|&byte| byte == 0)
+        && bytes[NEWS.end..HEAD_BYTES].iter().all(|&byte| byte == 0)
         && sites(bytes).all(is_site_inside)
 }
 
@@ -136,6 +140,15 @@ fn word(number: usize) -> [u8; 2] {
 
 fn word_at(bytes: &[u8], at: usize) -> u16 {
     u16::from_le_bytes([bytes[at], bytes[at + 1]])
+}
+
+fn double_word(number: usize) -> [u8; 4] {
+    let fits = u32::try_from(number).unwrap_or(u32::MAX);
+    fits.to_le_bytes()
+}
+
+fn double_word_at(bytes: &[u8], at: usize) -> u32 {
+    u32::from(word_at(bytes, at + 2)) << 16 | u32::from(word_at(bytes, at))
 }
 
 fn side_byte(side: Option<Side>) -> u8 {

@@ -11,6 +11,7 @@ pub mod calls;
 pub mod command;
 pub mod generate;
 pub mod layout;
+pub mod meeting;
 pub mod number;
 pub mod play;
 pub mod player;

@@ -34,7 +34,8 @@ pub const STARTED: u8 = 14;
 pub const FULL: u8 = 15;
 /// Lent store too short.
 pub const STORE: u8 = 16;
-/// World (or report numbers) outside what is allowed.
+/// World (or report numbers) outside what is allowed; a delivery that would
+/// bring the news over the limit.
 pub const WORLD: u8 = 17;
 /// Report buffer too short.
 pub const BUFFER: u8 = 18;

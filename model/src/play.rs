@@ -7,7 +7,7 @@ use crate::row::{Row, STORE_BYTES};
 use crate::sizes::{Sizes, HEADER_BYTES, MAX_LIST};
 use crate::state::State;
 use crate::step::Actor;
-use crate::world::{World, MAX_ROWS};
+use crate::world::{World, MAX_NEWS, MAX_ROWS};
 
 /// What comes of playing a list.
 #[derive(Clone, Copy, Debug, PartialEq, Eq)]
@@ -120,6 +120,9 @@ pub fn play_command(world: &mut World, store: &mut [u8], ask: Ask) -> Result<usi
     check_site(world, command)?;
     check_room(world, command, told.as_ref())?;
     let me = command.site();
+    if let Some(row) = &told {
+        merge(world, me, row)?;
+    }
     let mut actor = Actor {
         sizes: &world.sizes,
         me,
@@ -173,5 +176,18 @@ fn check_room(world: &World, command: Command, told: Option<&Row>) -> Result<(),
     if adds_row && world.row_count == MAX_ROWS {
         return Err(number::FULL);
     }
+    Ok(())
+}
+
+/// Merges a row into what a site knows, and adds its news. Check 17, the last
+/// one, is of the news that there would be: a refusal merges nothing.
+fn merge(world: &mut World, me: usize, row: &Row) -> Result<(), u8> {
+    let mut known = world.sites[me].vector;
+    let news = world.news + known.merge(&row.vector, me);
+    if news > MAX_NEWS {
+        return Err(number::WORLD);
+    }
+    world.sites[me].vector = known;
+    world.news = news;
     Ok(())
 }

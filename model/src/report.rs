@@ -60,8 +60,10 @@ fn first_line(world: &World, events: usize) -> String {
         abort_quorum,
         ..
     } = world.sizes;
-    let rows = world.row_count;
-    format!("sites {n} commit {commit_quorum} abort {abort_quorum} events {events} rows {rows}\n")
+    let (rows, news) = (world.row_count, world.news);
+    format!(
+        "sites {n} commit {commit_quorum} abort {abort_quorum} events {events} rows {rows} news {news}\n"
+    )
 }
 
 fn site_line(me: usize, site: &Site, n: usize) -> String {

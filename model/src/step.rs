@@ -15,7 +15,8 @@ pub struct Actor<'a> {
 }
 
 impl Actor<'_> {
-    /// What a command does here, with the row it delivers if it does.
+    /// What a command does here, with the row it delivers if it does; that row
+    /// is merged already.
     pub fn act(&mut self, command: Command, told: Option<&Row>) -> Option<Row> {
         match command {
             Command::Start => Some(self.start()),
@@ -83,9 +84,8 @@ impl Actor<'_> {
         self.site.vector.count(State::InGroup(side)) >= self.sizes.quorum(side)
     }
 
-    /// DELIVER of a row to this site.
+    /// DELIVER of a row to this site, once it is merged.
     fn deliver(&mut self, row: &Row) -> Option<Row> {
-        self.site.vector.merge(&row.vector, self.me);
         self.learn_outcome();
         match (row.kind, self.site.state()) {
             (Kind::Prepare, State::Active) => self.make_up_mind(),

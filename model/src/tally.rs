@@ -15,6 +15,10 @@ use crate::world::{World, MAX_ROWS};
 pub enum Sight {
     /// A row is delivered to the same site again.
     Repeat,
+    /// A delivery raises no entry.
+    IdleDelivery,
+    /// A delivery raises several entries.
+    MuchNews,
     /// Two sites are coordinators at once.
     SeveralLeaders,
     /// The two groups are there at once.
@@ -35,8 +39,10 @@ pub enum Sight {
 }
 
 impl Sight {
-    pub const ALL: [Sight; 9] = [
+    pub const ALL: [Sight; 11] = [
         Sight::Repeat,
+        Sight::IdleDelivery,
+        Sight::MuchNews,
         Sight::SeveralLeaders,
         Sight::BothGroups,
         Sight::CrashMidway,
@@ -62,8 +68,10 @@ impl Day {
         let played = play_list_by(&mut store, list, |world, store, ask| {
             let (command, _) = Command::read(ask)?;
             let before = world.sites.get(command.site()).copied();
+            let news_before = world.news;
             let next = play_command(world, store, ask)?;
             eye.look(world, command, before.as_ref());
+            eye.look_at_news(command, world.news - news_before);
             Ok(next)
         });
         let seen = eye.seen;
@@ -119,6 +127,13 @@ impl Eye {
             self.look_at_groups(world);
         }
         self.note(Sight::FullStore, world.row_count == MAX_ROWS);
+    }
+
+    /// Looks at the news that a command has brought.
+    fn look_at_news(&mut self, command: Command, news: usize) {
+        let is_delivery = matches!(command, Command::Deliver { .. });
+        self.note(Sight::IdleDelivery, is_delivery && news == 0);
+        self.note(Sight::MuchNews, is_delivery && news > 1);
     }
 
     fn look_at_leaders(&mut self, world: &World) {

@@ -47,14 +47,17 @@ impl Vector {
     }
 
     /// For every other site, takes the code told if its level is higher than
-    /// the one held.
-    pub fn merge(&mut self, told: &Vector, own: usize) {
+    /// the one held. Gives the news: how many entries rose.
+    pub fn merge(&mut self, told: &Vector, own: usize) -> usize {
+        let mut news = 0;
         let entries = self.0.iter_mut().zip(&told.0).enumerate();
         for (site, (held, &told)) in entries {
             if site != own && level(told) > level(*held) {
                 *held = told;
+                news += 1;
             }
         }
+        news
     }
 
     /// The outcome that some entry shows, the lowest site's first.
@@ -68,7 +71,7 @@ impl Vector {
 }
 
 /// How far along a code is.
-fn level(code: u8) -> u8 {
+pub fn level(code: u8) -> u8 {
     match code {
         0 => 0,
         1 => 1,

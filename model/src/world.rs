@@ -6,6 +6,8 @@ use crate::sizes::{Sizes, MAX_SITES};
 
 /// Most rows that can be sent.
 pub const MAX_ROWS: usize = 1024;
+/// Most news that a world can have had.
+pub const MAX_NEWS: usize = 491_520;
 
 /// One competition. The fields are open so that damaged worlds can be made.
 #[derive(Clone, Copy, Debug, PartialEq, Eq, Hash)]
@@ -13,6 +15,8 @@ pub struct World {
     pub sizes: Sizes,
     /// Rows sent so far.
     pub row_count: usize,
+    /// How many entries rose in all accepted deliveries so far.
+    pub news: usize,
     pub sites: [Site; MAX_SITES],
 }
 
@@ -21,6 +25,7 @@ impl World {
     pub const ZEROS: World = World {
         sizes: Sizes::ZEROS,
         row_count: 0,
+        news: 0,
         sites: [Site::IDLE; MAX_SITES],
     };
 
@@ -40,6 +45,7 @@ impl World {
         let mut sites = self.members().iter().enumerate();
         let is_valid = self.sizes.check().is_ok()
             && self.row_count <= MAX_ROWS
+            && self.news <= MAX_NEWS
             && sites.all(|(own, site)| site.is_valid(n, own));
         is_valid.then_some(()).ok_or(number::WORLD)
     }

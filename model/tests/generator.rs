@@ -5,6 +5,7 @@ use std::collections::{BTreeMap, HashSet};
 use model::calls::{Calls, Model, RESULT_BYTES};
 use model::generate::{duel, Call, Generator};
 use model::layout::decode;
+use model::meeting::{meetings, Meeting};
 use model::row::{ROW_BYTES, STORE_BYTES};
 use model::tally::{Day, Sight, Tally};
 use model::{number, one_command, play_list, Ask, Command, Kind, Played, Row};
@@ -13,6 +14,8 @@ use model::{Role, Side, Site, State, World};
 const SEED: u64 = 20_260_401;
 const LISTS: usize = 2_000;
 const CALLS: usize = 10_000;
+/// A delivery takes 4 bytes and raises the entries of 15 other sites at most.
+const MOST_NEWS: usize = (32_768 - 5) / 4 * 15;
 
 /// The tally of many lists, each of which is looked at command by command.
 fn tally_of(lists: &[Vec<u8>]) -> Tally {
@@ -40,7 +43,7 @@ fn see_through(list: &[u8], end: &Played) {
 fn walk(list: &[u8], end: &Played) -> Vec<u8> {
     let mut world = World::fresh(end.world.sizes);
     let mut store = vec![0xee; STORE_BYTES];
-    let mut at = 5;
+    let (mut at, mut news) = (5, 0);
     for _ in 0..end.events {
         let (command, _) = Command::read(Ask::new(list, at)).unwrap();
         let before = world.sites[command.site()];
@@ -48,9 +51,14 @@ fn walk(list: &[u8], end: &Played) -> Vec<u8> {
         let after = &world.sites[command.site()];
         assert!(!joins_from_active(&before, after));
         assert!(is_of_one_mind(after));
+        if let Command::Deliver { site, .. } = command {
+            news += changed_entries(&before, after, site);
+        }
+        assert_eq!(world.news, news);
     }
     assert_eq!((world, at), (end.world, end.place));
     assert_eq!(world.check(), Ok(()));
+    assert!(world.news <= MOST_NEWS);
     let unused = &store[world.row_count * ROW_BYTES..];
     assert!(unused.iter().all(|&byte| byte == 0xee));
     see_stop(&mut world, &mut store, list, end);
@@ -68,6 +76,13 @@ fn see_stop(world: &mut World, store: &mut [u8], list: &[u8], end: &Played) {
     assert_eq!(one_command(world, store, Ask::new(list, at)), Err(wanted));
     assert_eq!(*world, before);
     assert_eq!(store, rows);
+}
+
+/// How many entries but its own are other ones now?
+fn changed_entries(before: &Site, after: &Site, own: usize) -> usize {
+    let pairs = before.vector.codes().iter().zip(after.vector.codes());
+    let others = pairs.enumerate().filter(|&(site, _)| site != own);
+    others.filter(|(_, (held, now))| held != now).count()
 }
 
 /// Did an active site join the commit group?
@@ -100,6 +115,8 @@ fn guided_lists_are_rich() {
         (Sight::AbortQuorum, 10),
         (Sight::FullStore, 5),
         (Sight::Repeat, 10),
+        (Sight::IdleDelivery, 10),
+        (Sight::MuchNews, 10),
         (Sight::SeveralLeaders, 10),
         (Sight::BothGroups, 2),
         (Sight::CrashMidway, 5),
@@ -143,6 +160,8 @@ struct Met {
     timeouts: HashSet<(State, Role)>,
     /// State and role at each accepted RECOVER.
     recoveries: HashSet<(State, Role)>,
+    /// What they met of the news.
+    meetings: BTreeMap<Meeting, usize>,
 }
 
 impl Met {
@@ -158,6 +177,9 @@ impl Met {
             assert_eq!(store, call.store);
         }
         *self.numbers.entry(number).or_default() += 1;
+        for meeting in meetings(&call, number) {
+            *self.meetings.entry(meeting).or_default() += 1;
+        }
     }
 
     fn note_accepted(&mut self, call: &Call) {
@@ -187,12 +209,16 @@ fn single_calls_meet_every_number_and_rule() {
     for _ in 0..CALLS {
         met.add(generator.next_call());
     }
-    println!("{:?}", met.numbers);
+    println!("{:?} {:?}", met.numbers, met.meetings);
     for number in [0].into_iter().chain(6..=17) {
         let count = met.numbers.get(&number).copied().unwrap_or(0);
         assert!(count > CALLS / 1_000, "number {number}");
     }
     assert!(met.numbers[&0] > CALLS / 3);
+    for meeting in Meeting::ALL {
+        let count = met.meetings.get(&meeting).copied().unwrap_or(0);
+        assert!(count > CALLS / 1_000, "{meeting:?} is met {count} times");
+    }
     // Seven kinds, six states, two roles.
     assert_eq!(met.deliveries.len(), 7 * 6 * 2);
     assert_eq!(met.timeouts.len(), 6 * 2);

@@ -95,6 +95,7 @@ fn the_maker_refuses_the_same_sizes() {
     assert_eq!(world.sites[3], Site::FRESH);
     assert_eq!(world.sites[4], Site::IDLE);
     assert_eq!(world.check(), Ok(()));
+    assert_eq!((world.news, World::ZEROS.news), (0, 0));
     assert_eq!(World::ZEROS.check(), Err(number::WORLD));
 }
 
@@ -231,7 +232,7 @@ fn record(world: &mut World) -> &mut GroupRecord {
 
 #[test]
 fn worlds_that_are_refused() {
-    let damage: [fn(&mut World); 17] = [
+    let damage: [fn(&mut World); 19] = [
         |world| world.sizes.n = 2,
         |world| world.sizes.n = 17,
         |world| world.sizes.n = usize::MAX,
@@ -240,6 +241,8 @@ fn worlds_that_are_refused() {
         |world| world.sizes.abort_quorum = 1,
         |world| world.sizes.willing = 16,
         |world| world.row_count = 1025,
+        |world| world.news = 491_521,
+        |world| world.news = usize::MAX,
         |world| world.sites[2].vector.set(4, State::Prepared),
         |world| world.sites[3].vector.set(15, State::Prepared),
         |world| world.sites[0].vector.set(0, State::Active),
@@ -266,12 +269,13 @@ fn worlds_that_are_refused() {
 
 #[test]
 fn worlds_that_are_odd_but_pass() {
-    let oddity: [fn(&mut World); 5] = [
+    let oddity: [fn(&mut World); 6] = [
         |world| world.sites[4].vector.set(4, State::Prepared),
         |world| world.sites[15].log.outcome = Some(Side::Commit),
         |world| world.sites[3].role = Role::Coordinator,
         |world| world.sites[1].up = false,
         |world| world.sites[3].log.prepare = true,
+        |world| world.news = 491_520,
     ];
     for (which, change) in oddity.iter().enumerate() {
         let mut world = mixed();

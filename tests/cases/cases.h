@@ -13,6 +13,7 @@ void list_cases(void);
 void command_cases(void);
 void row_cases(void);
 void world_cases(void);
+void news_cases(void);
 void report_cases(void);
 
 /* The case that is played from here on; and what was got of it. */
@@ -32,11 +33,14 @@ struct change {
 /* At most so many; the others are 0 and change nothing. */
 #define CHANGES 8
 
+#define LAYOUT_NUMBER(number) {0, 1, number}
 #define SITES(n) {1, 1, n}
 #define COMMIT_QUORUM(c) {2, 2, c}
 #define ABORT_QUORUM(a) {4, 2, a}
 #define WILLING(bits) {6, 2, bits}
 #define ROWS(count) {8, 2, count}
+#define NEWS(count) {10, 4, count}
+#define RESERVED(at) {at, 1, 1}
 #define OF_SITE(site, at, value) {16 + 40 * (site) + (at), 1, value}
 #define DOWN(site) OF_SITE(site, 0, 0)
 #define UP(site) OF_SITE(site, 0, 1)
@@ -57,7 +61,7 @@ struct command {
     uint64_t place;
 };
 
-/* Plays the command in the world with these changes, and a store of this length: the bytes of a row 0, then zeros. */
-void expect_command(const struct command *command, const struct change *changes, const uint8_t *row, size_t store_length);
+/* Plays the command in the world with these changes, and a store of this length: the bytes of a row 0, then zeros. Gives the world after it. */
+const uint8_t *expect_command(const struct command *command, const struct change *changes, const uint8_t *row, size_t store_length);
 
 #endif

@@ -31,10 +31,10 @@ void make_world(uint8_t *world, const struct change *changes)
     expect("a fresh world", qc_play_list(fresh, sizeof fresh, store, sizeof store, world, QC_WORLD_BYTES, result, sizeof result), 0);
     for (i = 0; i < CHANGES; i++)
         for (byte = 0; byte < changes[i].bytes; byte++)
-            world[changes[i].at + byte] = (uint8_t)(byte < 2 ? changes[i].value >> 8 * byte : 0);
+            world[changes[i].at + byte] = (uint8_t)(byte < 4 ? changes[i].value >> 8 * byte : 0);
 }
 
-void expect_command(const struct command *command, const struct change *changes, const uint8_t *row, size_t store_length)
+const uint8_t *expect_command(const struct command *command, const struct change *changes, const uint8_t *row, size_t store_length)
 {
     static struct {
         uint8_t world[QC_WORLD_BYTES], store[QC_STORE_BYTES], result[QC_RESULT_BYTES];
@@ -52,6 +52,7 @@ void expect_command(const struct command *command, const struct change *changes,
         expect("place", qc_result_next_place(now.result), command->place);
     else
         expect("refused, buffers changed", memcmp(&now, &before, sizeof now) != 0, 0);
+    return now.world;
 }
 
 int main(void)
@@ -60,6 +61,7 @@ int main(void)
     command_cases();
     row_cases();
     world_cases();
+    news_cases();
     report_cases();
     printf("cases: %u cases around the numbers 1 to 18\n", cases);
     return 0;

@@ -15,9 +15,18 @@ struct world_case {
         CODE(0, 1, second), CODE(0, 2, third)
 
 static const struct world_case worlds[] = {
+    {"17 layout number 1", {LAYOUT_NUMBER(1)}, 17},
+    {"17 layout number 2 passes", {LAYOUT_NUMBER(2)}, 0},
+    {"17 layout number 3", {LAYOUT_NUMBER(3)}, 17},
+    {"17 reserved byte 14", {RESERVED(14)}, 17},
+    {"17 reserved byte 15", {RESERVED(15)}, 17},
     {"17 no rows pass", {ROWS(0)}, 0},
     {"17 1,024 rows pass", {ROWS(1024)}, 0},
     {"17 1,025 rows", {ROWS(1025)}, 17},
+    {"17 no news pass", {NEWS(0)}, 0},
+    {"17 491,520 news pass", {NEWS(491520)}, 0},
+    {"17 491,521 news", {NEWS(491521)}, 17},
+    {"17 16,777,216 news", {NEWS(16777216)}, 17},
     {"17 n of 2", {SIZES(2, 2, 2, 0)}, 17},
     {"17 n of 3 passes", {SIZES(3, 2, 2, 0)}, 0},
     {"17 n of 16 passes", {SIZES(16, 15, 15, 0)}, 0},

@@ -1,5 +1,6 @@
 -- The calls offered to C: number, and every byte of every buffer that is lent.
--- 16: a store shorter than 20,480; 17: bytes or lengths outside the layout, or a world that fails the check behind 17.
+-- 16: a store shorter than 20,480; 17: bytes or lengths outside the layout, or a world that fails the check behind 17;
+-- for one command also, last, a delivery whose news would pass the limit.
 use Prim.Native.Nat.{ℕ}
 use mathlib.Core.List.{List}
 use lib.Dec.{ltb, eqb}

@@ -1,4 +1,4 @@
-// One command on a world that lies in bytes: one site is read, and that site and the row count are written back.
+// One command on a world that lies in bytes: one site is read, and that site, the row count and the news are written back.
 ghost use mathlib.Core.Path.{_≡_};
 ghost use Prim.Native.Nat.{_≤_};
 ghost use lib.ListN.{length};
@@ -23,6 +23,7 @@ fn head_at(world: &[u8]) -> Head
         abort: AbortQuorum(decode::word_at(world, 4)),
         willing: decode::word_at(world, 6),
         rows: decode::word_at(world, 8),
+        news: decode::long_at(world, 10),
     }
 }
 
@@ -43,7 +44,7 @@ pub fn play_at(world: &mut [u8], store: &mut [u8], list: &[u8], at: usize, resul
         return number_of(change.number);
     }
     let after = change.site;
-    encode::put_change(world, own, after, change.rows);
+    encode::put_change(world, own, after, change.rows, change.news);
     encode::put_number(result, 0, 8, change.place);
     0
 }

@@ -80,13 +80,14 @@ lines [] = []
 lines (line ∷ rest) = text line ++ text "\n" ++ lines rest
 
 -- WHAT A DAY SHOWS: the number (0: played to its end), the place, the accepted events, every row sent, every record written, in
--- order, and the whole report
+-- order, the sum of the calls' news, and the whole report
 pub record Shown : Type 0 where
   pub number : ℕ
   pub place : ℕ
   pub events : ℕ
   pub rows : List Sent
   pub records : List Written
+  pub news : ℕ
   pub report : List ℕ
 
 unfoldable pub shownBy : List ℕ → List ℕ → Play → Shown
@@ -97,6 +98,7 @@ shownBy store list p =
       events = p .played .events;
       rows = rowsSent (p .played .world .n) (p .played .world .rows) (p .store);
       records = run (headerWorld list) store (p .asks) .records;
+      news = run (headerWorld list) store (p .asks) .news;
       report = reportText (p .played .world) (p .played .events) (p .played .number) (p .played .place);
     }
 

@@ -1,7 +1,7 @@
 -- THE DAYS AT THREE CLUBS marked M in document 01, "Days at three clubs": each list of bytes, and what playing it is to show. Not among
 -- them: T1 plays a temptation; R1 to R3 are restarts, for request (i) of document 02. Written from the papers. n = 3, C = A = 2, all
 -- willing (bits 7) unless said. A report's site line is: number, up or down, role, state, log, n codes. A row is: kind, sender,
--- destinations, codes.
+-- destinations, codes. The news is request (ii)'s: how many entries of other sites the day's deliveries raised.
 use Prim.Native.Nat.{ℕ}
 use mathlib.Core.List.{List, [], _∷_, _++_}
 use Rattle.site.specs.Records.{wrote, prepareRecord, groupRecord, outcomeRecord, abort}
@@ -23,9 +23,10 @@ M1 =
             events = 0;
             rows = [];
             records = [];
+            news = 0;
             report =
                 lines
-                ("sites 3 commit 2 abort 2 events 0 rows 0"
+                ("sites 3 commit 2 abort 2 events 0 rows 0 news 0"
                 ∷ "0 up subordinate active --- 000"
                 ∷ "1 up subordinate active --- 000"
                 ∷ "2 up subordinate active --- 000"
@@ -46,9 +47,10 @@ M2 =
             events = 1;
             rows = prepare 0 (1 ∷ 2 ∷ []) "100" ∷ [];
             records = wrote 0 prepareRecord ∷ [];
+            news = 0;
             report =
                 lines
-                ("sites 3 commit 2 abort 2 events 1 rows 1"
+                ("sites 3 commit 2 abort 2 events 1 rows 1 news 0"
                 ∷ "0 up coordinator prepared P-- 100"
                 ∷ "1 up subordinate active --- 000"
                 ∷ "2 up subordinate active --- 000"
@@ -58,7 +60,7 @@ M2 =
     }
 
 -- M3 the report of document 01, "The report". The input there, in hex: 03 02 02 07 00 01 02 00 00 01 02 01 00 00 03 00 02 02 00 02 02
--- 03 00 00 03 00 (START, row 0 to site 1, row 1 to site 0, TIMEOUT 0, row 2 to site 2, row 3 to site 0, TIMEOUT 0)
+-- 03 00 00 03 00 (START, row 0 to site 1, row 1 to site 0, TIMEOUT 0, row 2 to site 2, row 3 to site 0, TIMEOUT 0). Its news: 1 + 1 + 2 + 1
 unfoldable pub M3 : Day
 M3 =
     record {
@@ -83,9 +85,10 @@ M3 =
                 ∷ wrote 2 (groupRecord abort)
                 ∷ wrote 0 (outcomeRecord abort)
                 ∷ [];
+            news = 5;
             report =
                 lines
-                ("sites 3 commit 2 abort 2 events 7 rows 5"
+                ("sites 3 commit 2 abort 2 events 7 rows 5 news 5"
                 ∷ "0 up coordinator aborted PAa 513"
                 ∷ "1 up subordinate prepared P-- 110"
                 ∷ "2 up subordinate abort-group -A- 313"
@@ -106,9 +109,10 @@ M4 =
             events = 3;
             rows = prepare 0 (1 ∷ 2 ∷ []) "100" ∷ vote 1 (0 ∷ []) "150" ∷ [];
             records = wrote 0 prepareRecord ∷ wrote 1 (outcomeRecord abort) ∷ wrote 0 (outcomeRecord abort) ∷ [];
+            news = 2;
             report =
                 lines
-                ("sites 3 commit 2 abort 2 events 3 rows 2"
+                ("sites 3 commit 2 abort 2 events 3 rows 2 news 2"
                 ∷ "0 up coordinator aborted P-a 550"
                 ∷ "1 up subordinate aborted --a 150"
                 ∷ "2 up subordinate active --- 000"
@@ -129,9 +133,10 @@ M5 =
             events = 4;
             rows = prepare 0 (1 ∷ 2 ∷ []) "100" ∷ prepare 0 (1 ∷ 2 ∷ []) "100" ∷ [];
             records = wrote 0 prepareRecord ∷ [];
+            news = 0;
             report =
                 lines
-                ("sites 3 commit 2 abort 2 events 4 rows 2"
+                ("sites 3 commit 2 abort 2 events 4 rows 2 news 0"
                 ∷ "0 up coordinator prepared P-- 100"
                 ∷ "1 up subordinate active --- 000"
                 ∷ "2 up subordinate active --- 000"
@@ -140,7 +145,7 @@ M5 =
           };
     }
 
--- M6 START, row 0 twice to site 1: one P, two votes
+-- M6 START, row 0 twice to site 1: one P, two votes; the second delivery is idle
 unfoldable pub M6 : Day
 M6 =
     record {
@@ -152,9 +157,10 @@ M6 =
             events = 3;
             rows = prepare 0 (1 ∷ 2 ∷ []) "100" ∷ vote 1 (0 ∷ []) "110" ∷ vote 1 (0 ∷ []) "110" ∷ [];
             records = wrote 0 prepareRecord ∷ wrote 1 prepareRecord ∷ [];
+            news = 1;
             report =
                 lines
-                ("sites 3 commit 2 abort 2 events 3 rows 3"
+                ("sites 3 commit 2 abort 2 events 3 rows 3 news 1"
                 ∷ "0 up coordinator prepared P-- 100"
                 ∷ "1 up subordinate prepared P-- 110"
                 ∷ "2 up subordinate active --- 000"
@@ -175,9 +181,10 @@ M7 =
             events = 1;
             rows = [];
             records = wrote 2 (outcomeRecord abort) ∷ [];
+            news = 0;
             report =
                 lines
-                ("sites 3 commit 2 abort 2 events 1 rows 0"
+                ("sites 3 commit 2 abort 2 events 1 rows 0 news 0"
                 ∷ "0 up subordinate active --- 000"
                 ∷ "1 up subordinate active --- 000"
                 ∷ "2 up subordinate aborted --a 005"
@@ -198,9 +205,10 @@ M8 =
             events = 1;
             rows = prepare 0 (1 ∷ 2 ∷ []) "100" ∷ [];
             records = wrote 0 prepareRecord ∷ [];
+            news = 0;
             report =
                 lines
-                ("sites 3 commit 2 abort 2 events 1 rows 1"
+                ("sites 3 commit 2 abort 2 events 1 rows 1 news 0"
                 ∷ "0 up coordinator prepared P-- 100"
                 ∷ "1 up subordinate active --- 000"
                 ∷ "2 up subordinate active --- 000"
@@ -221,9 +229,10 @@ M9 =
             events = 1;
             rows = prepare 0 (1 ∷ 2 ∷ []) "100" ∷ [];
             records = wrote 0 prepareRecord ∷ [];
+            news = 0;
             report =
                 lines
-                ("sites 3 commit 2 abort 2 events 1 rows 1"
+                ("sites 3 commit 2 abort 2 events 1 rows 1 news 0"
                 ∷ "0 up coordinator prepared P-- 100"
                 ∷ "1 up subordinate active --- 000"
                 ∷ "2 up subordinate active --- 000"
@@ -244,9 +253,10 @@ M10 =
             events = 0;
             rows = [];
             records = [];
+            news = 0;
             report =
                 lines
-                ("sites 3 commit 2 abort 2 events 0 rows 0"
+                ("sites 3 commit 2 abort 2 events 0 rows 0 news 0"
                 ∷ "0 up subordinate active --- 000"
                 ∷ "1 up subordinate active --- 000"
                 ∷ "2 up subordinate active --- 000"
@@ -293,9 +303,10 @@ T1 =
                 ∷ wrote 2 (groupRecord abort)
                 ∷ wrote 1 (groupRecord abort)
                 ∷ [];
+            news = 6;
             report =
                 lines
-                ("sites 3 commit 2 abort 2 events 9 rows 7"
+                ("sites 3 commit 2 abort 2 events 9 rows 7 news 6"
                 ∷ "0 up coordinator abort-group PA- 313"
                 ∷ "1 up coordinator abort-group PA- 333"
                 ∷ "2 up subordinate abort-group -A- 303"
@@ -316,9 +327,10 @@ R1 =
             events = 3;
             rows = prepare 0 (1 ∷ 2 ∷ []) "100" ∷ [];
             records = wrote 0 prepareRecord ∷ wrote 1 (outcomeRecord abort) ∷ [];
+            news = 0;
             report =
                 lines
-                ("sites 3 commit 2 abort 2 events 3 rows 1"
+                ("sites 3 commit 2 abort 2 events 3 rows 1 news 0"
                 ∷ "0 up coordinator prepared P-- 100"
                 ∷ "1 up subordinate aborted --a 050"
                 ∷ "2 up subordinate active --- 000"
@@ -339,9 +351,10 @@ R2 =
             events = 5;
             rows = prepare 0 (1 ∷ 2 ∷ []) "100" ∷ vote 1 (0 ∷ []) "150" ∷ [];
             records = wrote 0 prepareRecord ∷ wrote 1 (outcomeRecord abort) ∷ wrote 0 (outcomeRecord abort) ∷ [];
+            news = 2;
             report =
                 lines
-                ("sites 3 commit 2 abort 2 events 5 rows 2"
+                ("sites 3 commit 2 abort 2 events 5 rows 2 news 2"
                 ∷ "0 up coordinator aborted P-a 550"
                 ∷ "1 up subordinate aborted --a 150"
                 ∷ "2 up subordinate active --- 000"
@@ -362,9 +375,10 @@ R3 =
             events = 2;
             rows = [];
             records = wrote 0 (outcomeRecord abort) ∷ [];
+            news = 0;
             report =
                 lines
-                ("sites 3 commit 2 abort 2 events 2 rows 0"
+                ("sites 3 commit 2 abort 2 events 2 rows 0 news 0"
                 ∷ "0 up subordinate aborted --a 500"
                 ∷ "1 up subordinate active --- 000"
                 ∷ "2 up subordinate active --- 000"

@@ -2,6 +2,7 @@
 mod read;
 mod valid;
 
+pub use read::long_at;
 pub use read::site_at;
 pub use read::word_at;
 pub use read::world_at;

@@ -2,7 +2,7 @@
 ghost use mathlib.Core.Path.{_≡_};
 ghost use Prim.Native.Nat.{_+_, _≤_};
 ghost use lib.ListN.{length};
-ghost use Rattle.layout.specs.Numbers.{wordAt};
+ghost use Rattle.layout.specs.Numbers.{wordAt, longAt};
 ghost use Rattle.layout.specs.Layout.{siteAt, sitesFrom, worldAt};
 use layout::group_of;
 use layout::outcome_of;
@@ -19,6 +19,14 @@ pub fn word_at(bytes: &[u8], at: usize) -> usize
     ensures { λ r. ⌜ r ≡ wordAt (now (bytes .entry)) at ⌝ }
 {
     wide(bytes[at]) + 256 * wide(bytes[at + 1])
+}
+
+// 32 bits, low byte first.
+pub fn long_at(bytes: &[u8], at: usize) -> usize
+    requires { ⌜ at + 4 ≤ length (now bytes) ⌝ }
+    ensures { λ r. ⌜ r ≡ longAt (now (bytes .entry)) at ⌝ }
+{
+    word_at(bytes, at) + 65536 * word_at(bytes, at + 2)
 }
 
 // The site that lies at a place.
@@ -65,5 +73,6 @@ pub fn world_at(bytes: &[u8]) -> World
         abort: AbortQuorum(word_at(bytes, 4)),
         willing: word_at(bytes, 6),
         rows: word_at(bytes, 8),
+        news: long_at(bytes, 10),
     }
 }

@@ -4,6 +4,7 @@ ghost use Prim.Native.Nat.{_≤_};
 ghost use lib.ListN.{length, getD};
 ghost use Rattle.world.specs.Valid.{validSites, validWorld};
 ghost use Rattle.layout.specs.Layout.{worldAt};
+use crate::read::long_at;
 use crate::read::site_at;
 use crate::read::word_at;
 use layout::site_place;
@@ -27,7 +28,7 @@ fn valid_sites_at(bytes: &[u8], n: usize) -> bool
     valid
 }
 
-// Sizes, row count, and the sites.
+// Sizes, row count and news, and the sites.
 pub fn valid_at(bytes: &[u8]) -> bool
     requires { ⌜ 656 ≤ length (now bytes) ⌝ }
     ensures { λ r. ⌜ r ≡ validWorld (worldAt (now (bytes .entry))) ⌝ }
@@ -35,7 +36,14 @@ pub fn valid_at(bytes: &[u8]) -> bool
     let n = wide(bytes[1]);
     let commit = CommitQuorum(word_at(bytes, 2));
     let abort = AbortQuorum(word_at(bytes, 4));
-    if validity::valid_head(n, commit, abort, word_at(bytes, 6), word_at(bytes, 8)) {
+    if validity::valid_head(
+        n,
+        commit,
+        abort,
+        word_at(bytes, 6),
+        word_at(bytes, 8),
+        long_at(bytes, 10),
+    ) {
         return valid_sites_at(bytes, n);
     }
     false

@@ -6,11 +6,10 @@ ghost use mathlib.Core.List.{List};
 ghost use Prim.Native.Nat.{_<_, _≤_};
 ghost use Rattle.site.specs.State.{stateOf};
 ghost use Rattle.site.specs.Records.{Written};
-ghost use Rattle.rules.specs.Rules.{adoptCode, adopt, voteIn, joinAbortIn, answer};
+ghost use Rattle.rules.specs.Rules.{adoptCode, adopt, voteIn, joinAbortIn, answer, bringing};
 use join_commit::on_join_commit;
 use rules::Step;
 use rules::replying;
-use rules::silent;
 use site::Group;
 use site::Outcome;
 use site::Site;
@@ -80,22 +79,26 @@ fn on_join_abort(own: usize, site: Site) -> Site
     }
 }
 
-// By the row's kind, after the merge, whatever records the merge led to.
-pub fn answer(kind: u8, own: usize, sender: usize, willing: bool, site: Site) -> Step
+// By the row's kind, after a merge with so much news, whatever records it led to.
+pub fn answer(kind: u8, own: usize, sender: usize, willing: bool, news: usize, site: Site) -> Step
     requires { ⌜ (own < 16) × (sender < 16) ⌝ }
-    ensures { λ r. ⌜ ((earlier : List Written) → r ≡ (answer kind own sender willing (record { site = site; records = earlier })) .step) ⌝ }
+    ensures { λ r. ⌜ ((earlier : List Written) → r ≡ (bringing news (answer kind own sender willing (record { site = site; records = earlier }))) .step) ⌝ }
 {
     if kind == 1 {
-        return replying(2, own, sender, on_prepare(own, willing, site));
+        return replying(2, own, sender, news, on_prepare(own, willing, site));
     }
     if kind == 3 {
-        return replying(5, own, sender, on_join_commit(own, site));
+        return replying(5, own, sender, news, on_join_commit(own, site));
     }
     if kind == 4 {
-        return replying(5, own, sender, on_join_abort(own, site));
+        return replying(5, own, sender, news, on_join_abort(own, site));
     }
     if kind == 6 {
-        return replying(7, own, sender, site);
+        return replying(7, own, sender, news, site);
     }
-    silent(site)
+    Step {
+        site,
+        row: row::no_row(),
+        news,
+    }
 }

@@ -3,9 +3,10 @@ ghost use mathlib.Core.Path.{_≡_};
 ghost use mathlib.Core.Bool.{true};
 ghost use Prim.Native.Nat.{ℕ, _+_, _≤_, _<_};
 ghost use lib.ListN.{length, getD};
-ghost use Rattle.world.specs.Worlds.{withSite, withRows};
+ghost use Rattle.world.specs.Worlds.{withSite, withRows, withNews};
 ghost use Rattle.layout.specs.Numbers.{putNumber};
-ghost use Rattle.layout.specs.Layout.{putHead, putFlags, putSite, putSites, putWorld, worldAt, inLayout, sitePlace};
+ghost use Rattle.layout.specs.Layout.{putHead, putFlags, putSite, putSites, putWorld, worldAt, inLayout};
+use layout::LAYOUT;
 use layout::flag_byte;
 use layout::group_byte;
 use layout::outcome_byte;
@@ -34,13 +35,14 @@ fn put_head(bytes: &mut [u8], world: World)
 {
     let commit = world.commit;
     let abort = world.abort;
-    put_number(bytes, 0, 1, 1);
+    put_number(bytes, 0, 1, LAYOUT as usize);
     put_number(bytes, 1, 1, world.n);
     put_number(bytes, 2, 2, commit.0);
     put_number(bytes, 4, 2, abort.0);
     put_number(bytes, 6, 2, world.willing);
     put_number(bytes, 8, 2, world.rows);
-    put_number(bytes, 10, 6, 0);
+    put_number(bytes, 10, 4, world.news);
+    put_number(bytes, 14, 2, 0);
 }
 
 // The eight bytes before a site's codes.
@@ -89,11 +91,12 @@ pub fn put_world(bytes: &mut [u8], world: World)
     put_sites(bytes, world);
 }
 
-// One site and the row count, into bytes inside the layout: all else of the world is there already.
-pub fn put_change(bytes: &mut [u8], own: usize, site: Site, rows: usize)
+// One site, the row count and the news, into bytes inside the layout: all else of the world is there already.
+pub fn put_change(bytes: &mut [u8], own: usize, site: Site, rows: usize, news: usize)
     requires { ⌜ (own < 16) × (inLayout (now bytes) ≡ true) × ((i : ℕ) → getD (now bytes) i 0 < 256) ⌝ }
-    ensures { λ _. ⌜ now (bytes .exit) ≡ putWorld (now (bytes .entry)) (withRows rows (withSite own site (worldAt (now (bytes .entry))))) ⌝ }
+    ensures { λ _. ⌜ now (bytes .exit) ≡ putWorld (now (bytes .entry)) (withNews news (withRows rows (withSite own site (worldAt (now (bytes .entry)))))) ⌝ }
 {
     put_number(bytes, 8, 2, rows);
+    put_number(bytes, 10, 4, news);
     put_site(bytes, site_place(own), site);
 }

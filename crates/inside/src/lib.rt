@@ -5,6 +5,7 @@ ghost use lib.Dec.{leb};
 ghost use lib.ListN.{length, getD};
 ghost use Rattle.choice.specs.Choice.{both};
 ghost use Rattle.layout.specs.Layout.{sitePlace, atMost, siteInLayout, sitesInLayout, inLayout};
+use layout::LAYOUT;
 use layout::WORLD_BYTES;
 use layout::site_place;
 
@@ -77,10 +78,10 @@ pub fn in_layout(bytes: &[u8]) -> bool
     if bytes.len() != WORLD_BYTES {
         return false;
     }
-    if bytes[0] != 1 {
+    if bytes[0] != LAYOUT {
         return false;
     }
-    if !at_most(bytes, 10, 6, 0) {
+    if !at_most(bytes, 14, 2, 0) {
         return false;
     }
     sites_in_layout(bytes)

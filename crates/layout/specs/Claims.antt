@@ -18,6 +18,7 @@ pub record Fits (w : World) : Type 0 where
   pub abort-fits : w .abort .0 < 65536
   pub willing-fits : w .willing < 65536
   pub rows-fit : w .rows < 65536
+  pub news-fits : w .news < 4294967296
 
 -- a world written and read is the same world
 abbrev pub WorldReadBack : Type 0

@@ -13,11 +13,15 @@ use Rattle.site.specs.declared.Outcome.the-variants as Outcome·
 use Rattle.site.specs.declared.Site.{Site}
 use Rattle.world.specs.declared.World.{World}
 use Rattle.world.specs.Worlds.{downSites, siteOf}
-use Rattle.layout.specs.Numbers.{putNumber, wordAt}
+use Rattle.layout.specs.Numbers.{putNumber, wordAt, longAt}
 
 -- the length of a world in bytes
 abbrev pub worldBytes : ℕ
 worldBytes = 656
+
+-- the layout number, a world's first byte
+abbrev pub layoutNumber : ℕ
+layoutNumber = 2
 
 -- where site k lies: after the sixteen bytes of the head, forty bytes each
 unfoldable pub sitePlace : ℕ → ℕ
@@ -41,15 +45,18 @@ outcomeByte Outcome·.None = 0
 outcomeByte Outcome·.Commit = 1
 outcomeByte Outcome·.Abort = 2
 
--- layout number 1, n, C, A, willing, rows, six zeros
+-- layout number, n, C, A, willing, rows, news, two zeros
 unfoldable pub putHead : List ℕ → World → List ℕ
 putHead b w =
-    putNumber 6
+    putNumber 2
+    (putNumber 4
     (putNumber 2
     (putNumber 2
-    (putNumber 2 (putNumber 2 (putNumber 1 (putNumber 1 b 0 1) 1 (w .n)) 2 (w .commit .0)) 4 (w .abort .0)) 6 (w .willing))
+    (putNumber 2 (putNumber 2 (putNumber 1 (putNumber 1 b 0 layoutNumber) 1 (w .n)) 2 (w .commit .0)) 4 (w .abort .0)) 6
+    (w .willing))
     8 (w .rows))
-    10 0
+    10 (w .news))
+    14 0
 
 -- up, role, prepare record, group, outcome, three zeros
 unfoldable pub putFlags : List ℕ → ℕ → Site → List ℕ
@@ -111,6 +118,7 @@ worldAt b =
       abort = record { 0 = wordAt b 4 };
       willing = wordAt b 6;
       rows = wordAt b 8;
+      news = longAt b 10;
     }
 
 -- the layout
@@ -129,8 +137,8 @@ unfoldable pub sitesInLayout : ℕ → List ℕ → Bool
 sitesInLayout zero b = true
 sitesInLayout (suc k) b = both (sitesInLayout k b) (siteInLayout b (sitePlace k))
 
--- INSIDE THE LAYOUT: 656 bytes, layout number 1, the reserved bytes 0, every flag in its range
+-- INSIDE THE LAYOUT: 656 bytes, the layout number, the reserved bytes 0, every flag in its range
 unfoldable pub inLayout : List ℕ → Bool
 inLayout b =
     both (eqb (length b) worldBytes)
-    (both (eqb (getD b 0 0) 1) (both (atMost 6 b 10 0) (sitesInLayout 16 b)))
+    (both (eqb (getD b 0 0) layoutNumber) (both (atMost 2 b 14 0) (sitesInLayout 16 b)))

@@ -16,3 +16,7 @@ putNumber (suc k) bytes at x = set (putNumber k bytes at x) (at + k) (shifted k 
 -- the 16 bits at a place
 unfoldable pub wordAt : List ℕ → ℕ → ℕ
 wordAt bytes at = getD bytes at 0 + 256 * getD bytes (at + 1) 0
+
+-- the 32 bits at a place
+unfoldable pub longAt : List ℕ → ℕ → ℕ
+longAt bytes at = wordAt bytes at + 65536 * wordAt bytes (at + 2)

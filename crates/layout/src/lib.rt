@@ -1,4 +1,4 @@
-// A world as 656 bytes: its length, the place of a site, the bytes of flags, groups and outcomes.
+// A world as 656 bytes: its length and layout number, the place of a site, the bytes of flags, groups and outcomes.
 mod values;
 
 pub use values::flag_byte;
@@ -10,3 +10,6 @@ pub use values::site_place;
 
 // The length of a world.
 pub const WORLD_BYTES: usize = 656;
+
+// The layout number, a world's first byte.
+pub const LAYOUT: u8 = 2;

@@ -18,11 +18,11 @@ use Rattle.site.specs.State.{stateOf}
 use Rattle.world.specs.declared.World.{World}
 use Rattle.world.specs.Worlds.{siteOf}
 
--- sizes, accepted events, rows
+-- sizes, accepted events, rows, news
 unfoldable pub sizesLine : World → ℕ → List ℕ
 sizesLine w events =
     named "sites " (w .n) ++ named " commit " (w .commit .0) ++ named " abort " (w .abort .0) ++ named " events " events
-    ++ named " rows " (w .rows) ++ text "\n"
+    ++ named " rows " (w .rows) ++ named " news " (w .news) ++ text "\n"
 
 unfoldable pub upWord : Bool → String
 upWord true = " up "

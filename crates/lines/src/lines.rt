@@ -36,25 +36,26 @@ fn put_quorums(buffer: &mut [u8], at: usize, world: World) -> usize
     put_named(buffer, at, b" abort ", abort.0)
 }
 
-// Sizes, accepted events, rows.
+// Sizes, accepted events, rows, news (room for six digits each).
 pub fn put_sizes(buffer: &mut [u8], at: usize, world: World, events: usize) -> usize
-    requires { ⌜ (validWorld world ≡ true) × (events ≤ 32768) × (at + 66 ≤ length (now buffer)) ⌝ }
+    requires { ⌜ (validWorld world ≡ true) × (events ≤ 32768) × (at + 78 ≤ length (now buffer)) ⌝ }
     ensures { λ r. ⌜ Written (now (buffer .entry)) at (sizesLine world events) (now (buffer .exit)) r ⌝ }
-    ensures { λ r. ⌜ r ≤ at + 66 ⌝ }
+    ensures { λ r. ⌜ r ≤ at + 78 ⌝ }
 {
     let at = put_quorums(buffer, at, world);
     let at = put_named(buffer, at, b" events ", events);
     let at = put_named(buffer, at, b" rows ", world.rows);
+    let at = put_named(buffer, at, b" news ", world.news);
     put_byte(buffer, at, b'\n')
 }
 
-// Number, up or down, role, state.
+// Number (room for two digits), up or down, role, state.
 fn put_standing(buffer: &mut [u8], at: usize, i: usize, site: Site) -> usize
-    requires { ⌜ (i < 16) × (at + 37 ≤ length (now buffer)) ⌝ }
+    requires { ⌜ (i < 16) × (at + 33 ≤ length (now buffer)) ⌝ }
     ensures { λ r. ⌜ Written (now (buffer .entry)) at
         (decimal i ++ text (upWord (site .up)) ++ text (roleWord (site .coordinator)) ++ text (stateWord (stateOf site)))
         (now (buffer .exit)) r ⌝ }
-    ensures { λ r. ⌜ r ≤ at + 37 ⌝ }
+    ensures { λ r. ⌜ r ≤ at + 33 ⌝ }
 {
     let state = site.state();
     let at = put_decimal(buffer, at, i);
@@ -65,9 +66,9 @@ fn put_standing(buffer: &mut [u8], at: usize, i: usize, site: Site) -> usize
 
 // A site's line: its standing, log, n codes.
 fn put_site(buffer: &mut [u8], at: usize, i: usize, n: usize, site: Site) -> usize
-    requires { ⌜ (i < 16) × (n ≤ 16) × (validVector n (site .codes) ≡ true) × (at + 58 ≤ length (now buffer)) ⌝ }
+    requires { ⌜ (i < 16) × (n ≤ 16) × (validVector n (site .codes) ≡ true) × (at + 54 ≤ length (now buffer)) ⌝ }
     ensures { λ r. ⌜ Written (now (buffer .entry)) at (siteLine i n site) (now (buffer .exit)) r ⌝ }
-    ensures { λ r. ⌜ r ≤ at + 58 ⌝ }
+    ensures { λ r. ⌜ r ≤ at + 54 ⌝ }
 {
     let codes = site.codes;
     let at = put_standing(buffer, at, i, site);
@@ -79,9 +80,9 @@ fn put_site(buffer: &mut [u8], at: usize, i: usize, n: usize, site: Site) -> usi
 
 // One line a site.
 pub fn put_sites(buffer: &mut [u8], at: usize, world: World) -> usize
-    requires { ⌜ (validWorld world ≡ true) × (at + 928 ≤ length (now buffer)) ⌝ }
+    requires { ⌜ (validWorld world ≡ true) × (at + 864 ≤ length (now buffer)) ⌝ }
     ensures { λ r. ⌜ Written (now (buffer .entry)) at (siteLines (world .n) world) (now (buffer .exit)) r ⌝ }
-    ensures { λ r. ⌜ r ≤ at + 928 ⌝ }
+    ensures { λ r. ⌜ r ≤ at + 864 ⌝ }
 {
     let n = world.n;
     let mut next = at;

@@ -1,7 +1,8 @@
 // A site's log letters and code digits.
 ghost use mathlib.Core.Path.{_≡_};
 ghost use mathlib.Core.Bool.{true};
-ghost use Prim.Native.Nat.{_+_, _<_, _≤_};
+ghost use Prim.Native.Nat.{_+_, _≤_};
+ghost use mathlib.Core.List.{[], _∷_};
 ghost use lib.ListN.{length};
 ghost use Rattle.text.specs.Text.{text};
 ghost use Rattle.text.specs.laws.Written.{Written};
@@ -12,38 +13,32 @@ use site::Outcome;
 use site::Site;
 use text::put_byte;
 
-fn put_prepare(buffer: &mut [u8], at: usize, prepared: bool) -> usize
-    requires { ⌜ at < length (now buffer) ⌝ }
-    ensures { λ r. ⌜ Written (now (buffer .entry)) at (text (prepareLetter prepared)) (now (buffer .exit)) r ⌝ }
-    ensures { λ r. ⌜ r ≤ at + 1 ⌝ }
+fn prepare_letter(prepared: bool) -> u8
+    ensures { λ r. ⌜ text (prepareLetter prepared) ≡ r ∷ [] ⌝ }
 {
     if prepared {
-        return put_byte(buffer, at, b'P');
+        return b'P';
     }
-    put_byte(buffer, at, b'-')
+    b'-'
 }
 
-fn put_group(buffer: &mut [u8], at: usize, group: Group) -> usize
-    requires { ⌜ at < length (now buffer) ⌝ }
-    ensures { λ r. ⌜ Written (now (buffer .entry)) at (text (groupLetter group)) (now (buffer .exit)) r ⌝ }
-    ensures { λ r. ⌜ r ≤ at + 1 ⌝ }
+fn group_letter(group: Group) -> u8
+    ensures { λ r. ⌜ text (groupLetter group) ≡ r ∷ [] ⌝ }
 {
     match group {
-        Group::None => put_byte(buffer, at, b'-'),
-        Group::Commit => put_byte(buffer, at, b'C'),
-        Group::Abort => put_byte(buffer, at, b'A'),
+        Group::None => b'-',
+        Group::Commit => b'C',
+        Group::Abort => b'A',
     }
 }
 
-fn put_outcome(buffer: &mut [u8], at: usize, outcome: Outcome) -> usize
-    requires { ⌜ at < length (now buffer) ⌝ }
-    ensures { λ r. ⌜ Written (now (buffer .entry)) at (text (outcomeLetter outcome)) (now (buffer .exit)) r ⌝ }
-    ensures { λ r. ⌜ r ≤ at + 1 ⌝ }
+fn outcome_letter(outcome: Outcome) -> u8
+    ensures { λ r. ⌜ text (outcomeLetter outcome) ≡ r ∷ [] ⌝ }
 {
     match outcome {
-        Outcome::None => put_byte(buffer, at, b'-'),
-        Outcome::Commit => put_byte(buffer, at, b'c'),
-        Outcome::Abort => put_byte(buffer, at, b'a'),
+        Outcome::None => b'-',
+        Outcome::Commit => b'c',
+        Outcome::Abort => b'a',
     }
 }
 
@@ -55,9 +50,9 @@ pub fn put_log(buffer: &mut [u8], at: usize, site: Site) -> usize
 {
     let group = site.group;
     let outcome = site.outcome;
-    let at = put_prepare(buffer, at, site.prepared);
-    let at = put_group(buffer, at, group);
-    put_outcome(buffer, at, outcome)
+    let at = put_byte(buffer, at, prepare_letter(site.prepared));
+    let at = put_byte(buffer, at, group_letter(group));
+    put_byte(buffer, at, outcome_letter(outcome))
 }
 
 // The first n codes, a digit each.

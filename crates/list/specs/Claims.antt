@@ -51,6 +51,16 @@ pub record Ends (list : List ℕ) (p : Play) : Type 0 where
 abbrev pub ListEnds : Type 0
 ListEnds = (store list : List ℕ) → Ends list (playList store list)
 
+-- the news of a list's world is the sum of its calls' news
+abbrev pub ListNewsIsSum : Type 0
+ListNewsIsSum =
+    (store list : List ℕ) →
+    playList store list .played .world .news ≡ run (headerWorld list) store (playList store list .asks) .news
+
+-- and at most 122,850: fifteen for each delivery, of which a list has room for 8,190. So no played list reaches 491,520
+abbrev pub ListNewsIsLow : Type 0
+ListNewsIsLow = (store list : List ℕ) → playList store list .played .world .news ≤ 122850
+
 -- calls that follow on, from a world, a store and a place: each begins where the one before ended, and all but the last are accepted
 unfoldable pub FollowOn : World → List ℕ → ℕ → List Ask → Type 0
 FollowOn w store at [] = Unit

@@ -2,6 +2,7 @@ pub mod Places
 pub mod CommandLaws
 pub mod PlayLaws
 pub mod HeaderLaws
+pub mod ListNews
 pub mod ListTheorems
 pub mod Loop
 pub mod LoopLaws

@@ -9,7 +9,7 @@ use crate::headers::header_number;
 use crate::headers::read_header;
 use world::World;
 
-// The commands from the header's fresh world on. 17 is not asked again: it never arises.
+// The commands from the header's fresh world on. 17 is not asked again of the world; `enter` asks it of the news, where it never arises.
 fn play_commands(fresh: World, store: &mut [u8], list: &[u8]) -> ListPlayed
     requires { ⌜ (fresh ≡ headerWorld (now list)) × (headerNumber (now list) ≡ 0) × (20480 ≤ length (now store)) ⌝ }
     ensures played { λ r. ⌜ r ≡ (playList (now (store .entry)) (now (list .entry))) .played ⌝ }
@@ -34,6 +34,7 @@ fn play_commands(fresh: World, store: &mut [u8], list: &[u8]) -> ListPlayed
         let after = change.site;
         world.sites[own] = after;
         world.rows = change.rows;
+        world.news = change.news;
         at = change.place;
         events += 1;
     }

@@ -19,7 +19,15 @@ impl Participant {
         let said = row.codes;
         let held = site.codes;
         let merged = vector::merge(n, own, said, held);
-        site.codes = merged;
-        answer(row.kind, own, row.sender, willing, adopt(own, n, site))
+        let codes = merged.codes;
+        site.codes = codes;
+        answer(
+            row.kind,
+            own,
+            row.sender,
+            willing,
+            merged.news,
+            adopt(own, n, site),
+        )
     }
 }

@@ -23,6 +23,7 @@ fn play_command(world: World, store: &mut [u8], list: &[u8], at: usize) -> Playe
     let after = change.site;
     next.sites[own] = after;
     next.rows = change.rows;
+    next.news = change.news;
     Played {
         number: change.number,
         world: next,

@@ -1,5 +1,6 @@
 -- One command: the refusals in the table's order, then the rule.
--- 16 store too short; 17 world; 6, 7 command byte and operands; 8 to 11 operands; 12 to 14 site; 15 room.
+-- 16 store too short; 17 world; 6, 7 command byte and operands; 8 to 11 operands; 12 to 14 site; 15 room;
+-- 17, checked last, the news.
 use Prim.Native.Nat.{ℕ}
 use mathlib.Core.List.{List}
 use lib.Dec.{ltb}

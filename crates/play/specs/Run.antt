@@ -1,5 +1,5 @@
 -- A list of one-command calls: each gets the world that the call before it returned and the store as that call left it.
-use Prim.Native.Nat.{ℕ}
+use Prim.Native.Nat.{ℕ, _+_}
 use mathlib.Core.List.{List, [], _∷_, _++_}
 use Rattle.site.specs.Records.{Written}
 use Rattle.world.specs.declared.World.{World}
@@ -11,21 +11,23 @@ pub record Ask : Type 0 where
   pub list : List ℕ
   pub place : ℕ
 
--- world and store after the calls, and all records written over them, in order
+-- world and store after the calls, all records written over them, in order, and the sum of their news: a refused call has none
 pub record Ran : Type 0 where
   pub world : World
   pub store : List ℕ
   pub records : List Written
+  pub news : ℕ
 
 -- one call
 unfoldable pub callOf : World → List ℕ → Ask → Call
 callOf w store a = oneCommand w store (a .list) (a .place)
 
--- the records of a first part put before those of the rest
-unfoldable pub afterCall : List Written → Ran → Ran
-afterCall earlier r = record { world = r .world; store = r .store; records = earlier ++ r .records }
+-- a call's records put before those of the calls after it, and its news added to theirs
+unfoldable pub afterCall : Call → Ran → Ran
+afterCall c r =
+    record { world = r .world; store = r .store; records = c .records ++ r .records; news = c .news + r .news }
 
 unfoldable pub run : World → List ℕ → List Ask → Ran
-run w store [] = record { world = w; store = store; records = [] }
+run w store [] = record { world = w; store = store; records = []; news = 0 }
 run w store (a ∷ asks) =
-    afterCall (callOf w store a .records) (run (callOf w store a .world) (callOf w store a .store) asks)
+    afterCall (callOf w store a) (run (callOf w store a .world) (callOf w store a .store) asks)

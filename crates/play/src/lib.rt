@@ -28,13 +28,15 @@ pub struct Head {
     pub abort: AbortQuorum,
     pub willing: usize,
     pub rows: usize,
+    pub news: usize,
 }
 
-// What a command leaves of the one site that it acts on and of the row count: both as they were where it is refused. So list playing
-// need not copy the world, about 600 bytes, for every command.
+// What a command leaves of the one site that it acts on, of the row count and of the news: all as they were where it is refused. So list
+// playing need not copy the world, about 600 bytes, for every command.
 pub struct Change {
     pub number: u8,
     pub site: Site,
     pub rows: usize,
+    pub news: usize,
     pub place: usize,
 }

@@ -15,5 +15,6 @@ pub fn head_of(world: World) -> Head
         abort,
         willing: world.willing,
         rows: world.rows,
+        news: world.news,
     }
 }

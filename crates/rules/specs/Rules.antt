@@ -1,12 +1,12 @@
--- The site rules: START, TIMEOUT, DELIVER, CRASH and RECOVER. Each gives the next site, the row it sends (kind 0: none) and the
--- records it writes. `own` is the site's number, n the number of sites.
+-- The site rules: START, TIMEOUT, DELIVER, CRASH and RECOVER. Each gives the next site, the row it sends (kind 0: none), its news (how
+-- many entries its merge raised) and the records it writes. `own` is the site's number, n the number of sites.
 use Prim.Native.Nat.{ℕ}
 use mathlib.Core.Bool.{Bool, true, false}
 use mathlib.Core.List.{List, [], _∷_, _++_}
 use lib.Dec.{ltb, eqb}
 use lib.ListN.{set}
 use Rattle.choice.specs.Choice.{pick, either}
-use Rattle.vector.specs.Vector.{count, merge, lowestOutcome}
+use Rattle.vector.specs.Vector.{count, merging, lowestOutcome}
 use Rattle.row.specs.declared.Row.{Row}
 use Rattle.bits.specs.Bits.{onlySite, otherSites}
 use Rattle.row.specs.Rows.{noRow}
@@ -22,7 +22,7 @@ use Rattle.site.specs.State.{stateOf, codeOf, isTerminated, isActive, commitRea
 use Rattle.site.specs.Fields.{zeroVector, withUp, withCoordinator, withCodes}
 use Rattle.site.specs.Records.{Written, wrote, prepareRecord, groupRecord, outcomeRecord, commit, abort, writePrepare, joinGroup, writeOutcome}
 
--- what a rule does: the next site with the row it sends, and the records written
+-- what a rule does: the next site with the row it sends and its news, and the records written
 pub record Move : Type 0 where
   pub step : Step
   pub records : List Written
@@ -32,9 +32,9 @@ pub record Noted : Type 0 where
   pub site : Site
   pub records : List Written
 
--- nothing is sent
+-- nothing is sent. No news: only DELIVER merges, and it adds its own (`bringing`)
 unfoldable pub silent : Site → List Written → Move
-silent s records = record { step = record { site = s; row = noRow }; records = records }
+silent s records = record { step = record { site = s; row = noRow; news = 0 }; records = records }
 
 -- a command (kinds 1, 3, 4 and 6) goes to all sites but the sender, with the sender's vector after the step
 unfoldable pub commandRow : ℕ → ℕ → ℕ → Site → Row
@@ -42,7 +42,8 @@ commandRow kind own n s =
     record { kind = kind; sender = own; destinations = otherSites n own; codes = s .codes }
 
 unfoldable pub commanding : ℕ → ℕ → ℕ → Site → List Written → Move
-commanding kind own n s records = record { step = record { site = s; row = commandRow kind own n s }; records = records }
+commanding kind own n s records =
+    record { step = record { site = s; row = commandRow kind own n s; news = 0 }; records = records }
 
 -- a reply (kinds 2, 5 and 7) goes to the command's sender alone
 unfoldable pub replyRow : ℕ → ℕ → ℕ → Site → Row
@@ -50,7 +51,7 @@ replyRow kind own to s = record { kind = kind; sender = own; destinations = only
 
 unfoldable pub replying : ℕ → ℕ → ℕ → Noted → Move
 replying kind own to m =
-    record { step = record { site = m .site; row = replyRow kind own to (m .site) }; records = m .records }
+    record { step = record { site = m .site; row = replyRow kind own to (m .site); news = 0 }; records = m .records }
 
 -- START at site 0: if willing, write P, become coordinator, send prepare; if unwilling, write abort, become coordinator, send outcome
 unfoldable pub start : ℕ → Bool → Site → Move
@@ -96,9 +97,9 @@ timeoutIn State·.Aborted own n c a s = takeOver 6 own n s
 unfoldable pub timeout : ℕ → ℕ → CommitQuorum → AbortQuorum → Site → Move
 timeout own n c a s = timeoutIn (stateOf s) own n c a s
 
--- DELIVER, first: merge
+-- DELIVER, first: merge; this is the vector that merging gives
 unfoldable pub hear : ℕ → ℕ → List ℕ → Site → Site
-hear own n said s = withCodes (merge n own said (s .codes)) s
+hear own n said s = withCodes (merging n own said (s .codes) .codes) s
 
 -- the outcome of a code 4 or 5, written; any other code writes nothing
 unfoldable pub adoptCode : ℕ → ℕ → Site → Noted
@@ -154,9 +155,15 @@ answer kind own sender willing m =
     (pick (eqb kind 6) (replying 7 own sender m)
     (silent (m .site) (m .records)))))
 
--- DELIVER
+-- a move with the news of the merge before it
+unfoldable pub bringing : ℕ → Move → Move
+bringing news m = record { step = record { site = m .step .site; row = m .step .row; news = news }; records = m .records }
+
+-- DELIVER; its news: how many entries merging raised
 unfoldable pub deliver : ℕ → ℕ → Bool → Row → Site → Move
-deliver own n willing row s = answer (row .kind) own (row .sender) willing (adopt own n (hear own n (row .codes) s))
+deliver own n willing row s =
+    bringing (merging n own (row .codes) (s .codes) .news)
+    (answer (row .kind) own (row .sender) willing (adopt own n (hear own n (row .codes) s)))
 
 -- what a crash leaves of the vector: the one in the group record, or all 0
 unfoldable pub keptVector : Group → List ℕ → List ℕ

@@ -11,8 +11,9 @@ pub use send::replying;
 pub use send::silent;
 use site::Site;
 
-// What a rule hands back: the next site, and the row it sends (kind 0: none).
+// What a rule hands back: the next site, the row it sends (kind 0: none), and how many entries its merge raised.
 pub struct Step {
     pub site: Site,
     pub row: Row,
+    pub news: usize,
 }

@@ -2,7 +2,7 @@
 ghost use mathlib.Core.Path.{_≡_};
 ghost use mathlib.Core.List.{[]};
 ghost use Prim.Native.Nat.{_<_, _≤_};
-ghost use Rattle.rules.specs.Rules.{silent, commanding, replying};
+ghost use Rattle.rules.specs.Rules.{silent, commanding, replying, bringing};
 use crate::Step;
 use row::Row;
 use site::Site;
@@ -13,6 +13,7 @@ pub fn silent(site: Site) -> Step
     Step {
         site,
         row: row::no_row(),
+        news: 0,
     }
 }
 
@@ -29,12 +30,14 @@ pub fn commanding(kind: u8, own: usize, n: usize, site: Site) -> Step
             destinations: bits::other_sites(n, own),
             codes,
         },
+        news: 0,
     }
 }
 
-pub fn replying(kind: u8, own: usize, to: usize, site: Site) -> Step
+// A delivery replies, so with the news of its merge.
+pub fn replying(kind: u8, own: usize, to: usize, news: usize, site: Site) -> Step
     requires { ⌜ to < 16 ⌝ }
-    ensures { λ r. ⌜ r ≡ (replying kind own to (record { site = site; records = [] })) .step ⌝ }
+    ensures { λ r. ⌜ r ≡ (bringing news (replying kind own to (record { site = site; records = [] }))) .step ⌝ }
 {
     let codes = site.codes;
     Step {
@@ -45,5 +48,6 @@ pub fn replying(kind: u8, own: usize, to: usize, site: Site) -> Step
             destinations: bits::only_site(to),
             codes,
         },
+        news,
     }
 }

@@ -1,11 +1,11 @@
 -- What is claimed of every list of one-command calls. The proofs are elsewhere; this file and the definitions below it are to be believed.
-use Prim.Native.Nat.{ℕ, _+_, _≤_, _<_, min}
+use Prim.Native.Nat.{ℕ, zero, suc, _+_, _≤_, _<_, min}
 use mathlib.Core.Bool.{true, false}
 use mathlib.Core.List.{List, [], _∷_}
 use mathlib.Core.Path.{_≡_}
 use lib.Dec.{eqb}
 use lib.ListN.{length, getD}
-use Rattle.choice.specs.Choice.{pick, both}
+use Rattle.choice.specs.Choice.{pick, both, either}
 use Rattle.bits.specs.Bits.{hasBit}
 use Rattle.row.specs.Rows.{getRow, rowPlace}
 use Rattle.site.specs.State.{stateOf, codeOf, isActive}
@@ -17,7 +17,7 @@ use Rattle.command.specs.declared.Command.the-variants as Command·
 use Rattle.command.specs.declared.Delivery.{Delivery}
 use Rattle.command.specs.Commands.{readCommand, found}
 use Rattle.world.specs.declared.World.{World}
-use Rattle.world.specs.Sizes.{sizesNumber}
+use Rattle.world.specs.Sizes.{maxNews, sizesNumber}
 use Rattle.world.specs.Worlds.{freshWorld, siteOf}
 use Rattle.world.specs.Valid.{validWorld}
 use Rattle.play.specs.Calls.{Call}
@@ -84,19 +84,20 @@ NeverOccurs =
     callOf (freshRun n c a willing store asks .world) (freshRun n c a willing store asks .store) ask .number ≡ 0 →
     Delivered (freshRun n c a willing store asks .world) (freshRun n c a willing store asks .store) (d .row) (d .site)
 
--- THEOREM 3: a refused call, of whatever number, changes neither world nor store and writes no record
+-- THEOREM 3: a refused call, of whatever number, changes neither world nor store, writes no record and has no news
 pub record Unchanged (w : World) (store : List ℕ) (r : Call) : Type 0 where
   pub world-same : r .world ≡ w
   pub store-same : r .store ≡ store
   pub no-record : r .records ≡ []
+  pub no-news : r .news ≡ 0
 
 abbrev pub RefusedChangesNothing : Type 0
 RefusedChangesNothing =
     (w : World) (store list : List ℕ) (at : ℕ) →
     (oneCommand w store list at .number ≡ 0 → ⊥) → Unchanged w store (oneCommand w store list at)
 
--- an accepted call changes one site at most, adds one row at most, and leaves all else: sizes, other sites, the rows below the count and
--- the bytes beyond the last row
+-- an accepted call changes one site at most, adds one row at most and its own news, and leaves all else: sizes, other sites, the rows
+-- below the count and the bytes beyond the last row
 pub record Kept (w : World) (store : List ℕ) (r : Call) : Type 0 where
   pub own : ℕ
   pub own-below : own < w .n
@@ -107,6 +108,7 @@ pub record Kept (w : World) (store : List ℕ) (r : Call) : Type 0 where
   pub same-willing : r .world .willing ≡ w .willing
   pub rows-grow : w .rows ≤ r .world .rows
   pub rows-by-one : r .world .rows ≤ w .rows + 1
+  pub news-added : r .world .news ≡ w .news + r .news
   pub same-length : length (r .store) ≡ length store
   pub bytes-below : (b : ℕ) → b < rowPlace (w .rows) → getD (r .store) b 0 ≡ getD store b 0
   pub bytes-beyond : (b : ℕ) → rowPlace (r .world .rows) ≤ b → getD (r .store) b 0 ≡ getD store b 0
@@ -185,3 +187,34 @@ NeverSaysYes =
     DownEmpty (freshRun n c a willing store first .world) j →
     k < runOn (freshRun n c a willing store first) rest .world .rows →
     NoYes j (getRow (runOn (freshRun n c a willing store first) rest .store) k .codes)
+
+-- THEOREM 9: over every list of calls from the maker's world, the world's news is the sum of the calls' news
+abbrev pub NewsIsSum : Type 0
+NewsIsSum =
+    (n : ℕ) (c : CommitQuorum) (a : AbortQuorum) (willing : ℕ) (store : List ℕ) (asks : List Ask) →
+    freshRun n c a willing store asks .world .news ≡ freshRun n c a willing store asks .news
+
+-- how many entries below n, but for site `own`'s, differ between two vectors
+unfoldable pub entriesChanged : ℕ → ℕ → List ℕ → List ℕ → ℕ
+entriesChanged zero own v u = 0
+entriesChanged (suc k) own v u = entriesChanged k own v u + pick (either (eqb k own) (eqb (getD v k 0) (getD u k 0))) 0 1
+
+-- a call's news: of an accepted delivery, how many entries of other sites it changed at the site that it names; of any other command, none.
+-- And a delivery in a world that passes 17 meets 17 only where those that its merge would change bring the world's news over 491,520
+pub record Tells (w : World) (store list : List ℕ) (at : ℕ) : Type 0 where
+  pub delivery :
+      (d : Delivery) (next : ℕ) → readCommand list at ≡ found (Command·.Deliver d) next → oneCommand w store list at .number ≡ 0 →
+      oneCommand w store list at .news
+      ≡ entriesChanged (w .n) (d .site) (siteOf w (d .site) .codes) (siteOf (oneCommand w store list at .world) (d .site) .codes)
+  pub other : ((d : Delivery) (next : ℕ) → readCommand list at ≡ found (Command·.Deliver d) next → ⊥) → oneCommand w store list at .news ≡ 0
+  pub past :
+      (d : Delivery) (next : ℕ) → readCommand list at ≡ found (Command·.Deliver d) next → validWorld w ≡ true →
+      oneCommand w store list at .number ≡ 17 →
+      maxNews
+      < w .news
+      + entriesChanged (w .n) (d .site) (siteOf w (d .site) .codes)
+      (hear (d .site) (w .n) (getRow store (d .row) .codes) (siteOf w (d .site)) .codes)
+
+-- THEOREM 10: of every call, from any world of the type's shape and any store
+abbrev pub CallTells : Type 0
+CallTells = (w : World) (store list : List ℕ) (at : ℕ) → Shaped w → Tells w store list at

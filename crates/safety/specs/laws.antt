@@ -18,6 +18,7 @@ pub mod Invariant
 pub mod Fresh
 pub mod Runs
 pub mod Demand3
+pub mod Deliveries
 pub mod NeverOccurs
 pub mod FreshValid
 pub mod RunWorlds
@@ -25,3 +26,4 @@ pub mod RunStores
 pub mod SiteView
 pub mod Restarts
 pub mod NeverYes
+pub mod News

@@ -1,9 +1,9 @@
-// The check behind 17: sizes, row count and the sites.
+// The check behind 17: sizes, row count, news and the sites.
 ghost use mathlib.Core.Path.{_≡_};
 ghost use Prim.Native.Nat.{_≤_};
 ghost use lib.Dec.{leb, eqb};
 ghost use Rattle.choice.specs.Choice.{both};
-ghost use Rattle.world.specs.Sizes.{maxRows, sizesNumber};
+ghost use Rattle.world.specs.Sizes.{maxRows, maxNews, sizesNumber};
 ghost use Rattle.world.specs.Valid.{validSites, validWorld};
 use crate::limits::valid_limits;
 use crate::sites::valid_through;
@@ -12,20 +12,24 @@ use site::CommitQuorum;
 use world::World;
 use world::sizes_number;
 
-// Sizes and row count.
+// Sizes, row count and news.
 pub fn valid_head(
     n: usize,
     commit: CommitQuorum,
     abort: AbortQuorum,
     willing: usize,
     rows: usize,
+    news: usize,
 ) -> bool
-    ensures { λ r. ⌜ r ≡ both (eqb (sizesNumber n commit abort willing) 0) (leb rows maxRows) ⌝ }
+    ensures { λ r. ⌜ r ≡ both (eqb (sizesNumber n commit abort willing) 0) (both (leb rows maxRows) (leb news maxNews)) ⌝ }
 {
     if sizes_number(n, commit, abort, willing) != 0 {
         return false;
     }
-    rows <= World::ROWS
+    if rows <= World::ROWS {
+        return news <= World::NEWS;
+    }
+    false
 }
 
 fn valid_sites(world: World) -> bool
@@ -50,7 +54,14 @@ pub fn valid_world(world: World) -> bool
 {
     let commit = world.commit;
     let abort = world.abort;
-    if valid_head(world.n, commit, abort, world.willing, world.rows) {
+    if valid_head(
+        world.n,
+        commit,
+        abort,
+        world.willing,
+        world.rows,
+        world.news,
+    ) {
         return valid_sites(world);
     }
     false

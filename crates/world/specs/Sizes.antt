@@ -5,12 +5,15 @@ use Rattle.choice.specs.Choice.{pick}
 use Rattle.site.specs.declared.CommitQuorum.{CommitQuorum}
 use Rattle.site.specs.declared.AbortQuorum.{AbortQuorum}
 
--- the limits: sites, rows, bytes of a list, of the store of rows and of the report buffer
+-- the limits: sites, rows, news, bytes of a list, of the store of rows and of the report buffer
 abbrev pub maxSites : ℕ
 maxSites = 16
 
 abbrev pub maxRows : ℕ
 maxRows = 1024
+
+abbrev pub maxNews : ℕ
+maxNews = 491520
 
 abbrev pub listBytes : ℕ
 listBytes = 32768

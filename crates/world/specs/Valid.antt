@@ -11,7 +11,7 @@ use Rattle.site.specs.declared.Group.the-variants as Group·
 use Rattle.site.specs.declared.Site.{Site}
 use Rattle.site.specs.State.{stateOf, codeOf}
 use Rattle.world.specs.declared.World.{World}
-use Rattle.world.specs.Sizes.{maxRows, sizesNumber}
+use Rattle.world.specs.Sizes.{maxRows, maxNews, sizesNumber}
 use Rattle.world.specs.Worlds.{siteOf}
 
 -- a group record's vector: codes to 5, entries from n up 0, own entry its group; all 0 with no group
@@ -31,8 +31,8 @@ unfoldable pub validSites : ℕ → World → Bool
 validSites zero w = true
 validSites (suc k) w = both (validSites k w) (validSite k (w .n) (siteOf w k))
 
--- sizes, row count, and the n sites
+-- sizes, row count, news, and the n sites
 unfoldable pub validWorld : World → Bool
 validWorld w =
     both (eqb (sizesNumber (w .n) (w .commit) (w .abort) (w .willing)) 0)
-    (both (leb (w .rows) maxRows) (validSites (w .n) w))
+    (both (leb (w .rows) maxRows) (both (leb (w .news) maxNews) (validSites (w .n) w)))

@@ -27,6 +27,7 @@ zeroWorld =
       abort = record { 0 = 0 };
       willing = 0;
       rows = 0;
+      news = 0;
     }
 
 -- the sites below n up, the others down
@@ -45,6 +46,7 @@ freshWorld n c a willing =
       abort = a;
       willing = willing;
       rows = 0;
+      news = 0;
     })
     zeroWorld
 
@@ -65,6 +67,7 @@ withSite i s w =
       abort = w .abort;
       willing = w .willing;
       rows = w .rows;
+      news = w .news;
     }
 
 unfoldable pub withRows : ℕ → World → World
@@ -76,4 +79,17 @@ withRows k w =
       abort = w .abort;
       willing = w .willing;
       rows = k;
+      news = w .news;
+    }
+
+unfoldable pub withNews : ℕ → World → World
+withNews k w =
+    record {
+      sites = w .sites;
+      n = w .n;
+      commit = w .commit;
+      abort = w .abort;
+      willing = w .willing;
+      rows = w .rows;
+      news = k;
     }

@@ -36,6 +36,7 @@ impl World {
             abort: AbortQuorum(0),
             willing: 0,
             rows: 0,
+            news: 0,
         }
     }
 
@@ -53,6 +54,7 @@ impl World {
             abort,
             willing,
             rows: 0,
+            news: 0,
         }
     }
 }

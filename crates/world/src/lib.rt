@@ -12,12 +12,15 @@ pub struct World {
     pub abort: site::AbortQuorum,
     pub willing: usize,
     pub rows: usize,
+    pub news: usize,
 }
 
 impl World {
     pub const SITES: usize = 16;
 
     pub const ROWS: usize = 1024;
+
+    pub const NEWS: usize = 491520;
 
     pub const LIST_BYTES: usize = 32768;
 

@@ -10,7 +10,7 @@ use crate::site::{GroupRecord, Log, Role, Site};
 use crate::sizes::{everyone, MAX_SITES};
 use crate::state::{Side, State};
 use crate::vector::Vector;
-use crate::world::{World, MAX_ROWS};
+use crate::world::{World, MAX_NEWS, MAX_ROWS};
 
 /// All that a one-command call is given, the world as bytes.
 #[derive(Clone, Debug)]
@@ -29,11 +29,14 @@ impl Call {
 
 /// A call on a reached or a thinkable world, with some damage at times.
 pub fn any(rng: &mut Rng) -> Call {
-    let (world, mut store) = if rng.chance(40) {
+    let (mut world, mut store) = if rng.chance(40) {
         reached(rng)
     } else {
         thinkable(rng)
     };
+    if rng.chance(75) {
+        world.news = thinkable_news(rng);
+    }
     let (list, at) = command_bytes(rng, &world);
     let mut world = encode(&world);
     if rng.chance(12) {
@@ -114,6 +117,19 @@ fn thinkable_codes(rng: &mut Rng, n: usize) -> Vec<u8> {
     (0..n)
         .map(|_| same.unwrap_or_else(|| rng.below(height + 1) as u8))
         .collect()
+}
+
+/// News of a world, near the limit half of the time and seldom over it.
+fn thinkable_news(rng: &mut Rng) -> usize {
+    let near = rng.choose(&[1, 3, 3, 5, MAX_SITES]);
+    match rng.below(100) {
+        0..=14 => 0,
+        15..=29 => rng.below(300),
+        30..=47 => rng.below(MAX_NEWS + 1),
+        48..=95 => MAX_NEWS - rng.below(near),
+        96..=97 => MAX_NEWS + rng.between(1, near),
+        _ => rng.between(MAX_NEWS + 1, u32::MAX as usize),
+    }
 }
 
 /// A row that passes, with anything in its codes from n up.

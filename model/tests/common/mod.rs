@@ -13,7 +13,7 @@ pub const M3_LIST: [u8; 26] = [
 ];
 
 /// The worked report.
-pub const M3_REPORT: &str = "sites 3 commit 2 abort 2 events 7 rows 5\n\
+pub const M3_REPORT: &str = "sites 3 commit 2 abort 2 events 7 rows 5 news 5\n\
                              0 up coordinator aborted PAa 513\n\
                              1 up subordinate prepared P-- 110\n\
                              2 up subordinate abort-group -A- 313\n\
@@ -90,6 +90,7 @@ pub fn group(side: Side, codes: &[u8]) -> Option<GroupRecord> {
 pub fn widest() -> World {
     let mut world = World::fresh(Sizes::new(16, 15, 15, u16::MAX));
     world.row_count = 1024;
+    world.news = 491_520;
     for (me, site) in world.sites.iter_mut().enumerate() {
         site.up = false;
         site.role = Role::Coordinator;

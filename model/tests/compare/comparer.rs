@@ -3,7 +3,9 @@
 use std::collections::BTreeMap;
 
 use model::calls::{Calls, RESULT_BYTES};
+use model::generate::Call;
 use model::layout::{encode, WORLD_BYTES};
+use model::meeting::{is_over_limit, meetings, Meeting};
 use model::row::{ROW_BYTES, STORE_BYTES};
 use model::sizes::HEADER_BYTES;
 use model::tally::{Day, Tally};
@@ -44,7 +46,7 @@ const NOTHING_PLAYED: [u8; 6] = [
 /// The world of zeros as bytes: the layout's number, and nothing else.
 const ZEROS: [u8; WORLD_BYTES] = {
     let mut bytes = [0; WORLD_BYTES];
-    bytes[0] = 1;
+    bytes[0] = 2;
     bytes
 };
 
@@ -60,6 +62,10 @@ pub struct Comparer<'a> {
     pub numbers: BTreeMap<u32, usize>,
     /// How often each directed clause was hit.
     pub clauses: BTreeMap<&'static str, usize>,
+    /// How often a generated call met each thing about the news.
+    pub meetings: BTreeMap<Meeting, usize>,
+    /// Generated reports that were refused for the news alone.
+    pub over_limit: usize,
     /// What the lists led to that were played on the usual buffers.
     pub tally: Tally,
     /// The same for the longer ones alone.
@@ -77,6 +83,8 @@ impl<'a> Comparer<'a> {
             model,
             numbers: BTreeMap::new(),
             clauses: BTreeMap::new(),
+            meetings: BTreeMap::new(),
+            over_limit: 0,
             tally: Tally::default(),
             longer: Tally::default(),
             lists: 0,
@@ -173,6 +181,15 @@ impl<'a> Comparer<'a> {
         Ok(self.count(number))
     }
 
+    /// A generated call, with an eye on its news.
+    pub fn call(&mut self, call: &Call) -> Agreed {
+        let number = self.command(&call.world, &call.store, call.ask(), RESULT_BYTES)?;
+        for meeting in meetings(call, number) {
+            *self.meetings.entry(meeting).or_default() += 1;
+        }
+        Ok(number)
+    }
+
     /// A list again, command by command, world and store handed on.
     pub fn walk(&mut self, list: &[u8]) -> Result<(), String> {
         let mut end = [self.pattern(STORE_BYTES), vec![0; WORLD_BYTES], vec![0; 8]];
@@ -227,6 +244,14 @@ impl<'a> Comparer<'a> {
             format!("report {numbers:?} into {buffer_size}\n{why}world {world}\n")
         })?;
         Ok(self.count(number))
+    }
+
+    /// A report of a generated call's world, with an eye on its news.
+    pub fn report_of(&mut self, call: &Call, numbers: Numbers, buffer_size: usize) -> Agreed {
+        let number = self.report(&call.world, numbers, buffer_size, RESULT_BYTES)?;
+        let is_for_news = numbers.stop <= number::LAST.into() && is_over_limit(&call.world);
+        self.over_limit += usize::from(is_for_news);
+        Ok(number)
     }
 
     /// Notes that a clause was hit, with the number that is due.

@@ -1,10 +1,11 @@
 //! Copies of the model with one fault each: the comparison has to see it.
 
 use model::calls::{Model, Rules};
+use model::meeting::Delivery;
 use model::play::play_command;
 use model::row::ROW_BYTES;
 use model::sizes::everyone;
-use model::world::MAX_ROWS;
+use model::world::{MAX_NEWS, MAX_ROWS};
 use model::{number, Ask, Command, GroupRecord, Kind, Log, Numbers};
 use model::{Row, Side, Site, State, World};
 
@@ -35,9 +36,27 @@ pub enum Fault {
     FearsFullStore,
     /// The byte after the report's text is changed.
     WritesPastText,
+    /// The receiver's own entry is counted where the row tells a higher one.
+    CountsOwnEntry,
+    /// The receiver's own entry is counted where the delivery changes it.
+    CountsOwnChange,
+    /// An entry is counted that is told by another code of the level held.
+    CountsEqualEntry,
+    /// Such an entry is taken, and counted.
+    TakesEqualEntry,
+    /// A refused delivery leaves its news.
+    KeepsRefusedNews,
+    /// A delivery that reaches the limit is refused with 17.
+    RefusesLimit,
+    /// A delivery that would pass the limit is accepted.
+    PassesLimit,
+    /// The limit is asked before the room.
+    AsksNewsBeforeRoom,
+    /// A world at the limit is refused with 17.
+    FearsMuchNews,
 }
 
-pub const FAULTS: [Fault; 11] = [
+pub const FAULTS: [Fault; 20] = [
     Fault::CountsAllEntries,
     Fault::TakesThreeForPrepare,
     Fault::KeepsVector,
@@ -49,6 +68,15 @@ pub const FAULTS: [Fault; 11] = [
     Fault::MistakesBadRow,
     Fault::FearsFullStore,
     Fault::WritesPastText,
+    Fault::CountsOwnEntry,
+    Fault::CountsOwnChange,
+    Fault::CountsEqualEntry,
+    Fault::TakesEqualEntry,
+    Fault::KeepsRefusedNews,
+    Fault::RefusesLimit,
+    Fault::PassesLimit,
+    Fault::AsksNewsBeforeRoom,
+    Fault::FearsMuchNews,
 ];
 
 pub struct Faulty(pub Fault);
@@ -56,20 +84,36 @@ pub struct Faulty(pub Fault);
 impl Rules for Faulty {
     fn command(&self, world: &mut World, store: &mut [u8], ask: Ask) -> Result<usize, u8> {
         let before = *world;
-        let next = match (self.0, play_command(world, store, ask)) {
-            (Fault::MistakesBadRow, Err(number::BAD_ROW)) => Err(number::ROW),
-            (Fault::FearsFullStore, Ok(_)) if before.row_count == MAX_ROWS => {
+        let told = Delivery::of(world, store, ask);
+        let next = match (self.0, self.play(world, store, ask), &told) {
+            (Fault::MistakesBadRow, Err(number::BAD_ROW), _) => Err(number::ROW),
+            (Fault::FearsFullStore, Ok(_), _) if before.row_count == MAX_ROWS => {
                 *world = before;
                 Err(number::WORLD)
             }
-            (_, answer) => answer,
+            (Fault::KeepsRefusedNews, Err(number), Some(told)) => {
+                world.news += told.news();
+                Err(number)
+            }
+            (Fault::AsksNewsBeforeRoom, Err(number::FULL), Some(told))
+                if told.total() > MAX_NEWS =>
+            {
+                Err(number::WORLD)
+            }
+            (_, answer, _) => answer,
         }?;
         let (command, _) = Command::read(ask)?;
         self.spoil(&before, world, store, command);
+        if let Some(told) = told {
+            world.news += self.miscounted(&told, &before, world);
+        }
         Ok(next)
     }
 
     fn text(&self, world: &World, numbers: Numbers, buffer: &mut [u8]) -> Result<usize, u8> {
+        if self.0 == Fault::FearsMuchNews && world.news == MAX_NEWS {
+            return Err(number::WORLD);
+        }
         let size = Model.text(world, numbers, buffer)?;
         if self.0 == Fault::WritesPastText {
             buffer[size] ^= 1;
@@ -79,6 +123,18 @@ impl Rules for Faulty {
 }
 
 impl Faulty {
+    /// The command as the model plays it, but for the faults that begin before it.
+    fn play(&self, world: &mut World, store: &mut [u8], ask: Ask) -> Result<usize, u8> {
+        let news = world.news;
+        match self.0 {
+            Fault::TakesEqualEntry => take_equals(world, store, ask),
+            Fault::RefusesLimit => play_with(world, store, ask, news + 1),
+            Fault::PassesLimit => play_with(world, store, ask, 0),
+            Fault::FearsMuchNews if news == MAX_NEWS => Err(number::WORLD),
+            _ => play_command(world, store, ask),
+        }
+    }
+
     /// The same event with the faulty rule.
     fn spoil(&self, before: &World, world: &mut World, store: &mut [u8], command: Command) {
         let me = command.site();
@@ -106,6 +162,17 @@ impl Faulty {
         }
     }
 
+    /// The news that an accepted delivery is wrongly taken to bring.
+    fn miscounted(&self, told: &Delivery, before: &World, after: &World) -> usize {
+        let state = |world: &World| world.sites[told.me()].state();
+        match self.0 {
+            Fault::CountsOwnEntry => told.tells_own().into(),
+            Fault::CountsOwnChange => (state(before) != state(after)).into(),
+            Fault::CountsEqualEntry => told.same_levels().len(),
+            _ => 0,
+        }
+    }
+
     /// RECOVER with an empty log.
     fn restart(&self, before: &World, world: &mut World, store: &mut [u8], me: usize) {
         let held = &before.sites[me];
@@ -126,6 +193,30 @@ impl Faulty {
             _ => {}
         }
     }
+}
+
+/// Plays as if there were other news.
+fn play_with(world: &mut World, store: &mut [u8], ask: Ask, news: usize) -> Result<usize, u8> {
+    let held = world.news;
+    world.news = news;
+    let answer = play_command(world, store, ask);
+    world.news = held + (world.news - news);
+    answer
+}
+
+/// Plays as if nothing were known of the sites whose level the row tells by another code.
+fn take_equals(world: &mut World, store: &mut [u8], ask: Ask) -> Result<usize, u8> {
+    let before = *world;
+    if let Some(told) = Delivery::of(world, store, ask) {
+        let known = &mut world.sites[told.me()].vector;
+        let same = told.same_levels().into_iter();
+        same.for_each(|site| known.set(site, State::Active));
+    }
+    let answer = play_command(world, store, ask);
+    if answer.is_err() {
+        *world = before;
+    }
+    answer
 }
 
 fn count_all(before: &World, world: &mut World, store: &mut [u8], me: usize) {

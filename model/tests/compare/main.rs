@@ -17,6 +17,7 @@ use std::time::Instant;
 use model::calls::{Calls, Model, RESULT_BYTES};
 use model::generate::Generator;
 use model::layout::{encode, WORLD_BYTES};
+use model::meeting::Meeting;
 use model::row::STORE_BYTES;
 use model::tally::Sight;
 use model::{number, play_list, Numbers};
@@ -53,9 +54,10 @@ const PART: Amount = Amount {
     reports: 500,
 };
 
-/// Every clause of document 01's table of numbers, in its order. Those that
-/// speak of the layout, of a list's world length and of the result length are
-/// docs/LAYOUT.md's. Each must be hit by a call made by hand for it.
+/// Every clause of document 01's table of numbers, in its order, with what
+/// document 02 adds about the news. Those that speak of the layout, of a list's
+/// world length and of the result length are docs/LAYOUT.md's. Each must be hit
+/// by a call made by hand for it.
 const CLAUSES: &[&str] = &[
     "16 store too short",
     "17 n under 3",
@@ -65,6 +67,7 @@ const CLAUSES: &[&str] = &[
     "17 C + A under n + 1",
     "17 willing bit at n or above",
     "17 rows over 1,024",
+    "17 news over 491,520",
     "17 code above 5",
     "17 entry from n up not 0",
     "17 own entry not its state",
@@ -113,6 +116,7 @@ const CLAUSES: &[&str] = &[
     "15 DELIVER of a command",
     "15 TIMEOUT of a coordinator",
     "15 TIMEOUT of a subordinate",
+    "17 news past the limit",
     "18 buffer too short",
 ];
 
@@ -126,10 +130,47 @@ const RECOVERIES: &[&str] = &[
     "0 full: RECOVER, empty log",
 ];
 
+/// What is news and what is not, the limit and what comes before it. Each must be
+/// hit by a call made by hand for it.
+const NEWS: &[&str] = &[
+    "0 news of 491,520",
+    "0 news: none",
+    "0 news: one",
+    "0 news: several",
+    "0 news: own entry told",
+    "0 news: own entry changed",
+    "0 news: all others",
+    "0 news: equal levels",
+    "0 news: lower levels",
+    "0 news: codes from n up",
+    "0 news: carried",
+    "0 news: limit not reached",
+    "0 news: limit reached",
+    "0 news: none at the limit",
+    "0 news: START",
+    "0 news: TIMEOUT",
+    "0 news: CRASH",
+    "0 news: RECOVER",
+    "10 before 17",
+    "11 before 17",
+    "12 before 17",
+    "15 before 17",
+    "17 before 15",
+    "11 a refused row's news",
+    "12 a refused row's news",
+    "15 a refused row's news",
+];
+
+/// How often the generated calls must have met each thing about the news, and the
+/// generated reports news over the limit.
+const LEAST_MET: usize = 100;
+
 /// The least that is asked for of the lists compared: in how many of a hundred
 /// each sight is had, and in how many of a hundred of the longer lists.
-const LEAST: [(Sight, usize, usize); 9] = [
+const LEAST: [(Sight, usize, usize); 11] = [
     (Sight::Repeat, 30, 90),
+    (Sight::IdleDelivery, 30, 90),
+    (Sight::MuchNews, 30, 90),
     (Sight::SeveralLeaders, 30, 90),
     (Sight::FullStore, 1, 60),
     (Sight::CrashMidway, 10, 40),
@@ -151,6 +192,7 @@ fn made_by_hand(both: &mut Comparer) -> Result<(), String> {
     directed::worlds(both)?;
     directed::every_byte(both)?;
     directed::commands(both)?;
+    directed::news(both)?;
     directed::reports(both)
 }
 
@@ -179,8 +221,7 @@ fn generated_lists(both: &mut Comparer, mut from: Generator, count: usize) -> Re
 fn generated_calls(both: &mut Comparer, count: usize) -> Result<(), String> {
     let mut from = Generator::new(SEED + 3);
     for _ in 0..count {
-        let call = from.next_call();
-        both.command(&call.world, &call.store, call.ask(), RESULT_BYTES)?;
+        both.call(&from.next_call())?;
     }
     Ok(())
 }
@@ -197,7 +238,7 @@ fn generated_reports(both: &mut Comparer, count: usize) -> Result<(), String> {
         if at % 4 == 0 {
             let stop = at as u32 / 4 % 21;
             let numbers = Numbers { stop, ..numbers };
-            both.report(&from.next_call().world, numbers, size, RESULT_BYTES)?;
+            both.report_of(&from.next_call(), numbers, size)?;
         }
     }
     Ok(())
@@ -208,6 +249,8 @@ fn print(both: &Comparer) {
     println!("lists {lists}, commands {calls}, reports {reports}");
     println!("played: {}", both.tally);
     println!("longer: {}", both.longer);
+    println!("calls that met: {:?}", both.meetings);
+    println!("reports of too much news: {}", both.over_limit);
     for (number, count) in &both.numbers {
         println!("number {number:2} seen {count:8}");
     }
@@ -228,10 +271,11 @@ fn library_and_model_agree() {
     for number in 0..=number::LAST.into() {
         assert!(both.numbers.contains_key(&number), "{number} never seen");
     }
-    for name in CLAUSES.iter().chain(RECOVERIES) {
+    for name in [CLAUSES, RECOVERIES, NEWS].concat() {
         assert!(both.clauses.contains_key(name), "{name} never hit");
     }
     assert_rich(&both);
+    assert_newsy(&both);
 }
 
 /// There are many lists, many of them long, and much happens in them.
@@ -243,6 +287,15 @@ fn assert_rich(both: &Comparer) {
         assert!(all.percent(sight) >= of_all, "{sight:?} is rare");
         assert!(longer.percent(sight) >= of_longer, "{sight:?} is rare");
     }
+}
+
+/// The generated calls and reports met all there is about the news.
+fn assert_newsy(both: &Comparer) {
+    for meeting in Meeting::ALL {
+        let count = both.meetings.get(&meeting).copied().unwrap_or(0);
+        assert!(count >= LEAST_MET, "{meeting:?} is rare");
+    }
+    assert!(both.over_limit >= LEAST_MET);
 }
 
 /// The paper's own report, from the library.

@@ -2,24 +2,23 @@
 use Prim.Native.Nat.{ℕ, _≤_, _<_}
 use mathlib.Core.Bool.{true, false}
 use mathlib.Core.List.{List}
-use mathlib.Core.Path.{_≡_, refl, ap, sym, _∙_}
+use mathlib.Core.Path.{_≡_, ap, sym, _∙_}
 use lib.ListN.{length, getD}
 use borrow.Author.Tests.{le-ltb}
 use Rattle.site.specs.declared.Site.{Site}
 use Rattle.command.specs.declared.Reading.{Reading}
 use Rattle.command.specs.Commands.{readCommand}
-use Rattle.world.specs.declared.World.{World}
 use Rattle.world.specs.Sizes.{storeBytes}
-use Rattle.world.specs.Worlds.{siteOf, withSite, withRows}
+use Rattle.world.specs.Worlds.{withSite, withRows, withNews}
 use Rattle.world.specs.Valid.{validWorld}
 use Rattle.play.specs.declared.Head.{Head}
 use Rattle.play.specs.declared.Change.{Change}
-use Rattle.play.specs.Calls.{Call, refuse, playedOf}
+use Rattle.play.specs.Calls.{refuse, playedOf}
 use Rattle.play.specs.Commands.{performRead, playCommand, oneCommand}
 use Rattle.play.specs.laws.Changes.{Ready, Acts, headOf, worldOf, changed, actor}
 use Rattle.play.specs.laws.CallLaws.{ready, one-is-play, acts-played}
 use Rattle.layout.specs.Numbers.{putNumber}
-use Rattle.layout.specs.Layout.{worldBytes, sitePlace, siteAt, putWorld, worldAt, inLayout}
+use Rattle.layout.specs.Layout.{sitePlace, siteAt, putWorld, worldAt, inLayout}
 use Rattle.layout.specs.laws.LayoutLaws.{site-of}
 use Rattle.calls.specs.Calls.{resultBytes, leave, leaveCommand, commandCall}
 use Rattle.calls.specs.laws.CallLaws.{command-plays, command-refused, command-accepted}
@@ -50,7 +49,7 @@ playable-ready world store result h p e = rw e (ready (worldAt world) store (p .
 -- the change c at site `own`, with the store left, is the call
 record Acted (world store list : List ℕ) (at own : ℕ) (c : Change) (after : List ℕ) : Type 0 where
   number : c .number ≡ oneCommand (worldAt world) store list at .number
-  world-left : withRows (c .rows) (withSite own (c .site) (worldAt world)) ≡ oneCommand (worldAt world) store list at .world
+  world-left : withNews (c .news) (withRows (c .rows) (withSite own (c .site) (worldAt world))) ≡ oneCommand (worldAt world) store list at .world
   place : c .place ≡ oneCommand (worldAt world) store list at .place
   store-left : after ≡ oneCommand (worldAt world) store list at .store
 
@@ -89,7 +88,7 @@ module _
   pub change-accepted :
       c .number ≡ 0 →
       commandCall world store list at result
-      ≡ leave 0 after (putWorld world (withRows (c .rows) (withSite own (c .site) (worldAt world)))) (putNumber 8 result 0 (c .place))
+      ≡ leave 0 after (putWorld world (withNews (c .news) (withRows (c .rows) (withSite own (c .site) (worldAt world))))) (putNumber 8 result 0 (c .place))
   change-accepted accepted =
       command-accepted world store list at result (p .room) (p .eight) (p .inside) (sym (acted .number) ∙ accepted)
       ∙ rw (acted .store-left, acted .world-left, acted .place)

@@ -1,5 +1,5 @@
 -- The check behind 17, part by part, of a world that lies in bytes.
-use Prim.Native.Nat.{ℕ, suc, _+_, _≤_, _<_}
+use Prim.Native.Nat.{ℕ, _+_, _≤_, _<_}
 use mathlib.Core.Bool.{Bool, true}
 use mathlib.Core.List.{List}
 use mathlib.Core.Path.{_≡_, refl, ap, sym, _∙_}
@@ -10,12 +10,12 @@ use borrow.Author.Tests.{eqb-true}
 use Rattle.choice.specs.Choice.{both}
 use Rattle.choice.specs.laws.ChoiceLaws.{both-first}
 use Rattle.site.specs.declared.Site.{Site}
-use Rattle.world.specs.Sizes.{maxRows, sizesNumber}
+use Rattle.world.specs.Sizes.{maxRows, maxNews, sizesNumber}
 use Rattle.world.specs.Worlds.{siteOf}
 use Rattle.world.specs.Valid.{validSite, validSites, validWorld}
 use Rattle.world.specs.laws.SizesLaws.{sized}
 use Rattle.validity.specs.laws.LimitLaws.{validWorld-by}
-use Rattle.layout.specs.Numbers.{wordAt}
+use Rattle.layout.specs.Numbers.{wordAt, longAt}
 use Rattle.layout.specs.Layout.{sitePlace, siteAt, worldAt}
 use Rattle.layout.specs.laws.LayoutLaws.{site-of}
 
@@ -36,24 +36,27 @@ sites-through b k n at s before r small p q e f g =
 by-parts :
     (b : List ℕ) →
     validWorld (worldAt b)
-    ≡ both (both (eqb (sizesNumber (getD b 1 0) (record { 0 = wordAt b 2 }) (record { 0 = wordAt b 4 }) (wordAt b 6)) 0) (leb (wordAt b 8) maxRows))
+    ≡ both (both (eqb (sizesNumber (getD b 1 0) (record { 0 = wordAt b 2 }) (record { 0 = wordAt b 4 }) (wordAt b 6)) 0) (both (leb (wordAt b 8) maxRows) (leb (longAt b 10) maxNews)))
     (validSites (getD b 1 0) (worldAt b))
 unfolding worldAt
 by-parts b = validWorld-by (worldAt b)
 
--- sizes and row count, then the sites
+-- sizes, row count and news, then the sites
 pub head-first :
-    (b : List ℕ) (n c a willing rows : ℕ) (head : Bool) → n ≡ getD b 1 0 → c ≡ wordAt b 2 → a ≡ wordAt b 4 →
-    willing ≡ wordAt b 6 → rows ≡ wordAt b 8 → head ≡ both (eqb (sizesNumber n (record { 0 = c }) (record { 0 = a }) willing) 0) (leb rows maxRows) →
+    (b : List ℕ) (n c a willing rows news : ℕ) (head : Bool) → n ≡ getD b 1 0 → c ≡ wordAt b 2 → a ≡ wordAt b 4 →
+    willing ≡ wordAt b 6 → rows ≡ wordAt b 8 → news ≡ longAt b 10 →
+    head ≡ both (eqb (sizesNumber n (record { 0 = c }) (record { 0 = a }) willing) 0) (both (leb rows maxRows) (leb news maxNews)) →
     validWorld (worldAt b) ≡ both head (validSites n (worldAt b))
-head-first b n c a willing rows head d e f g h i = rw (i, d, e, f, g, h) (by-parts b)
+head-first b n c a willing rows news head d e f g h i j = rw (j, d, e, f, g, h, i) (by-parts b)
 
 -- a head that passes has at most sixteen sites
 pub head-sites :
-    (n c a willing rows : ℕ) (head : Bool) → head ≡ both (eqb (sizesNumber n (record { 0 = c }) (record { 0 = a }) willing) 0) (leb rows maxRows) → head ≡ true →
-    n ≤ 16
-head-sites n c a willing rows head e passes =
+    (n c a willing rows news : ℕ) (head : Bool) →
+    head ≡ both (eqb (sizesNumber n (record { 0 = c }) (record { 0 = a }) willing) 0) (both (leb rows maxRows) (leb news maxNews)) →
+    head ≡ true → n ≤ 16
+head-sites n c a willing rows news head e passes =
     sized n (record { 0 = c }) (record { 0 = a }) willing
     (eqb-true (sizesNumber n (record { 0 = c }) (record { 0 = a }) willing) 0
-    (both-first (eqb (sizesNumber n (record { 0 = c }) (record { 0 = a }) willing) 0) (leb rows maxRows) (sym e ∙ passes)))
+    (both-first (eqb (sizesNumber n (record { 0 = c }) (record { 0 = a }) willing) 0) (both (leb rows maxRows) (leb news maxNews))
+    (sym e ∙ passes)))
     .high

@@ -4,7 +4,7 @@ use mathlib.Core.Bool.{true, false}
 use mathlib.Core.List.{List}
 use mathlib.Core.Path.{_≡_, refl, sym, _∙_}
 use Rattle.code_bytes.specs.laws.CodeBytesLaws.{codesFrom-length}
-use native.Mathlib.Nat.{add-zero, mod-eq-of-lt}
+use native.Mathlib.Nat.{add-zero, add-assoc, mod-eq-of-lt}
 use native.Mathlib.Omega.{arith}
 use lib.Dec.{eqb}
 use lib.ListN.{length, getD, length-set}
@@ -17,9 +17,9 @@ use Rattle.site.specs.declared.Site.{Site}
 use Rattle.site.specs.Fields.{blankSite}
 use Rattle.world.specs.declared.World.{World}
 use Rattle.world.specs.Worlds.{downSites, siteOf}
-use Rattle.layout.specs.Numbers.{shifted, putNumber, wordAt}
-use Rattle.layout.specs.laws.NumberLaws.{putNumber-length, putNumber-else, putNumber-at, putNumber-same, word-written, word-same, word-else}
-use Rattle.layout.specs.Layout.{sitePlace, putHead, putSite, putSites, putWorld, siteAt, sitesFrom, worldAt, atMost, siteInLayout, sitesInLayout, inLayout, worldBytes}
+use Rattle.layout.specs.Numbers.{shifted, putNumber, wordAt, longAt}
+use Rattle.layout.specs.laws.NumberLaws.{putNumber-length, putNumber-else, putNumber-at, putNumber-same, word-written, word-same, word-else, long-written, long-same}
+use Rattle.layout.specs.Layout.{sitePlace, putHead, putSite, putSites, putWorld, siteAt, sitesFrom, worldAt, atMost, siteInLayout, sitesInLayout, inLayout, worldBytes, layoutNumber}
 use Rattle.layout.specs.Claims.{Fits, WorldReadBack, BytesWrittenBack, WrittenInside}
 use Rattle.layout.specs.laws.SiteLaws.{putSite-length, putSite-else, siteAt-same, site-read-back, zeros-held, site-written-back, most-all, zero-at, siteInLayout-same, site-inside}
 
@@ -85,54 +85,72 @@ module _ (b : List ℕ) (w : World) (room : 656 ≤ length b) where
   head-n : w .n < 256 → getD (putHead b w) 1 0 ≡ w .n
   unfolding putHead shifted
   head-n small =
-      putNumber-else 6 _ 10 0 1 (λ i l e. omega arith)
+      putNumber-else 2 _ 14 0 1 (λ i l e. omega arith)
+      ∙ putNumber-else 4 _ 10 (w .news) 1 (λ i l e. omega arith)
       ∙ putNumber-else 2 _ 8 (w .rows) 1 (λ i l e. omega arith)
       ∙ putNumber-else 2 _ 6 (w .willing) 1 (λ i l e. omega arith)
       ∙ putNumber-else 2 _ 4 (w .abort .0) 1 (λ i l e. omega arith)
       ∙ putNumber-else 2 _ 2 (w .commit .0) 1 (λ i l e. omega arith)
-      ∙ putNumber-at 1 (putNumber 1 b 0 1) 1 (w .n) 0 (omega arith) (rw putNumber-length (omega arith))
+      ∙ putNumber-at 1 (putNumber 1 b 0 layoutNumber) 1 (w .n) 0 (omega arith) (rw putNumber-length (omega arith))
       ∙ mod-eq-of-lt small
 
   head-commit : w .commit .0 < 65536 → wordAt (putHead b w) 2 ≡ w .commit .0
   unfolding putHead
   head-commit small =
-      word-else 6 _ 10 0 2 (λ i l e. omega arith) (λ i l e. omega arith)
+      word-else 2 _ 14 0 2 (λ i l e. omega arith) (λ i l e. omega arith)
+      ∙ word-else 4 _ 10 (w .news) 2 (λ i l e. omega arith) (λ i l e. omega arith)
       ∙ word-else 2 _ 8 (w .rows) 2 (λ i l e. omega arith) (λ i l e. omega arith)
       ∙ word-else 2 _ 6 (w .willing) 2 (λ i l e. omega arith) (λ i l e. omega arith)
       ∙ word-else 2 _ 4 (w .abort .0) 2 (λ i l e. omega arith) (λ i l e. omega arith)
-      ∙ word-written (putNumber 1 (putNumber 1 b 0 1) 1 (w .n)) 2 (w .commit .0) (simp putNumber-length (omega arith)) small
+      ∙ word-written (putNumber 1 (putNumber 1 b 0 layoutNumber) 1 (w .n)) 2 (w .commit .0) (simp putNumber-length (omega arith)) small
 
   head-abort : w .abort .0 < 65536 → wordAt (putHead b w) 4 ≡ w .abort .0
   unfolding putHead
   head-abort small =
-      word-else 6 _ 10 0 4 (λ i l e. omega arith) (λ i l e. omega arith)
+      word-else 2 _ 14 0 4 (λ i l e. omega arith) (λ i l e. omega arith)
+      ∙ word-else 4 _ 10 (w .news) 4 (λ i l e. omega arith) (λ i l e. omega arith)
       ∙ word-else 2 _ 8 (w .rows) 4 (λ i l e. omega arith) (λ i l e. omega arith)
       ∙ word-else 2 _ 6 (w .willing) 4 (λ i l e. omega arith) (λ i l e. omega arith)
-      ∙ word-written (putNumber 2 (putNumber 1 (putNumber 1 b 0 1) 1 (w .n)) 2 (w .commit .0)) 4 (w .abort .0)
+      ∙ word-written (putNumber 2 (putNumber 1 (putNumber 1 b 0 layoutNumber) 1 (w .n)) 2 (w .commit .0)) 4 (w .abort .0)
       (simp putNumber-length (omega arith)) small
 
   head-willing : w .willing < 65536 → wordAt (putHead b w) 6 ≡ w .willing
   unfolding putHead
   head-willing small =
-      word-else 6 _ 10 0 6 (λ i l e. omega arith) (λ i l e. omega arith)
+      word-else 2 _ 14 0 6 (λ i l e. omega arith) (λ i l e. omega arith)
+      ∙ word-else 4 _ 10 (w .news) 6 (λ i l e. omega arith) (λ i l e. omega arith)
       ∙ word-else 2 _ 8 (w .rows) 6 (λ i l e. omega arith) (λ i l e. omega arith)
       ∙ word-written
-      (putNumber 2 (putNumber 2 (putNumber 1 (putNumber 1 b 0 1) 1 (w .n)) 2 (w .commit .0)) 4 (w .abort .0)) 6 (w .willing)
+      (putNumber 2 (putNumber 2 (putNumber 1 (putNumber 1 b 0 layoutNumber) 1 (w .n)) 2 (w .commit .0)) 4 (w .abort .0)) 6 (w .willing)
       (simp putNumber-length (omega arith)) small
 
   head-rows : w .rows < 65536 → wordAt (putHead b w) 8 ≡ w .rows
   unfolding putHead
   head-rows small =
-      word-else 6 _ 10 0 8 (λ i l e. omega arith) (λ i l e. omega arith)
+      word-else 2 _ 14 0 8 (λ i l e. omega arith) (λ i l e. omega arith)
+      ∙ word-else 4 _ 10 (w .news) 8 (λ i l e. omega arith) (λ i l e. omega arith)
       ∙ word-written
-      (putNumber 2 (putNumber 2 (putNumber 2 (putNumber 1 (putNumber 1 b 0 1) 1 (w .n)) 2 (w .commit .0)) 4 (w .abort .0)) 6
+      (putNumber 2 (putNumber 2 (putNumber 2 (putNumber 1 (putNumber 1 b 0 layoutNumber) 1 (w .n)) 2 (w .commit .0)) 4 (w .abort .0)) 6
       (w .willing))
       8 (w .rows) (simp putNumber-length (omega arith)) small
 
+  head-news : w .news < 4294967296 → longAt (putHead b w) 10 ≡ w .news
+  unfolding putHead
+  head-news small =
+      long-same (putHead b w) _ 10
+      (word-else 2 _ 14 0 10 (λ i l e. omega arith) (λ i l e. omega arith))
+      (word-else 2 _ 14 0 12 (λ i l e. omega arith) (λ i l e. omega arith))
+      ∙ long-written
+      (putNumber 2
+      (putNumber 2 (putNumber 2 (putNumber 2 (putNumber 1 (putNumber 1 b 0 layoutNumber) 1 (w .n)) 2 (w .commit .0)) 4 (w .abort .0)) 6
+      (w .willing))
+      8 (w .rows))
+      10 (w .news) (simp putNumber-length (omega arith)) small
+
 world-same :
     (v w : World) → v .sites ≡ w .sites → v .n ≡ w .n → v .commit .0 ≡ w .commit .0 → v .abort .0 ≡ w .abort .0 →
-    v .willing ≡ w .willing → v .rows ≡ w .rows → v ≡ w
-world-same v w a b c d e f =
+    v .willing ≡ w .willing → v .rows ≡ w .rows → v .news ≡ w .news → v ≡ w
+world-same v w a b c d e f g =
     let z : _≡_ {A = World}
     (record {
       sites = v .sites;
@@ -141,6 +159,7 @@ world-same v w a b c d e f =
       abort = record { 0 = v .abort .0 };
       willing = v .willing;
       rows = v .rows;
+      news = v .news;
     })
     (record {
       sites = w .sites;
@@ -149,6 +168,7 @@ world-same v w a b c d e f =
       abort = record { 0 = w .abort .0 };
       willing = w .willing;
       rows = w .rows;
+      news = w .news;
     }) = cc in
     z
 
@@ -168,6 +188,9 @@ world-read-back b w room f =
     (putSites-word (putHead b w) w 4 (omega arith) ∙ head-abort b w room (f .abort-fits))
     (putSites-word (putHead b w) w 6 (omega arith) ∙ head-willing b w room (f .willing-fits))
     (putSites-word (putHead b w) w 8 (omega arith) ∙ head-rows b w room (f .rows-fit))
+    (long-same (putSites 16 (putHead b w) w) (putHead b w) 10 (putSites-word (putHead b w) w 10 (omega arith))
+    (putSites-word (putHead b w) w 12 (omega arith))
+    ∙ head-news b w room (f .news-fits))
 
 -- bytes that are there already
 
@@ -187,27 +210,48 @@ word-held b at small =
     let z : _≡_ {A = ℕ} i 1 = omega arith in
     rw z (omega (arith, small at, small (at + 1)))))
 
+long-held : (b : List ℕ) (at : ℕ) → ((i : ℕ) → getD b i 0 < 256) → putNumber 4 b at (longAt b at) ≡ b
+unfolding shifted longAt wordAt
+long-held b at small =
+    let first : getD b at 0 < 256 = small at in
+    let second : getD b (at + 1) 0 < 256 = small (at + 1) in
+    let third : getD b (at + 2) 0 < 256 = small (at + 2) in
+    let fourth : getD b (at + 2 + 1) 0 < 256 = small (at + 2 + 1) in
+    putNumber-same 4 b at (longAt b at)
+    (λ i h.
+    by-equal i 0
+    (λ z. rw (z, add-zero) (omega arith))
+    (λ n.
+    by-equal i 1
+    (λ z. rw z (omega arith))
+    (λ m.
+    by-equal i 2
+    (λ z. rw z (omega arith))
+    (λ q.
+    let z : _≡_ {A = ℕ} i 3 = omega arith in
+    rw (z, ← (add-assoc at 2 1)) (omega arith)))))
+
 -- what the layout asks
 pub record InsideParts (b : List ℕ) : Type 0 where
   pub exact : length b ≡ worldBytes
-  pub number : getD b 0 0 ≡ 1
-  pub zeros : atMost 6 b 10 0 ≡ true
+  pub number : getD b 0 0 ≡ layoutNumber
+  pub zeros : atMost 2 b 14 0 ≡ true
   pub sites : sitesInLayout 16 b ≡ true
 
 pub inside-parts : (b : List ℕ) → inLayout b ≡ true → InsideParts b
 unfolding inLayout
 inside-parts b e =
-    let rest : both (eqb (getD b 0 0) 1) (both (atMost 6 b 10 0) (sitesInLayout 16 b)) ≡ true =
-    both-second (eqb (length b) worldBytes) (both (eqb (getD b 0 0) 1) (both (atMost 6 b 10 0) (sitesInLayout 16 b))) e in
-    let parts : both (atMost 6 b 10 0) (sitesInLayout 16 b) ≡ true =
-    both-second (eqb (getD b 0 0) 1) (both (atMost 6 b 10 0) (sitesInLayout 16 b)) rest in
+    let rest : both (eqb (getD b 0 0) layoutNumber) (both (atMost 2 b 14 0) (sitesInLayout 16 b)) ≡ true =
+    both-second (eqb (length b) worldBytes) (both (eqb (getD b 0 0) layoutNumber) (both (atMost 2 b 14 0) (sitesInLayout 16 b))) e in
+    let parts : both (atMost 2 b 14 0) (sitesInLayout 16 b) ≡ true =
+    both-second (eqb (getD b 0 0) layoutNumber) (both (atMost 2 b 14 0) (sitesInLayout 16 b)) rest in
     record {
       exact =
           eqb-true (length b) worldBytes
-          (both-first (eqb (length b) worldBytes) (both (eqb (getD b 0 0) 1) (both (atMost 6 b 10 0) (sitesInLayout 16 b))) e);
-      number = eqb-true (getD b 0 0) 1 (both-first (eqb (getD b 0 0) 1) (both (atMost 6 b 10 0) (sitesInLayout 16 b)) rest);
-      zeros = both-first (atMost 6 b 10 0) (sitesInLayout 16 b) parts;
-      sites = both-second (atMost 6 b 10 0) (sitesInLayout 16 b) parts;
+          (both-first (eqb (length b) worldBytes) (both (eqb (getD b 0 0) layoutNumber) (both (atMost 2 b 14 0) (sitesInLayout 16 b))) e);
+      number = eqb-true (getD b 0 0) layoutNumber (both-first (eqb (getD b 0 0) layoutNumber) (both (atMost 2 b 14 0) (sitesInLayout 16 b)) rest);
+      zeros = both-first (atMost 2 b 14 0) (sitesInLayout 16 b) parts;
+      sites = both-second (atMost 2 b 14 0) (sitesInLayout 16 b) parts;
     }
 
 -- what the layout says of each part
@@ -231,12 +275,12 @@ sites-held (suc k) b e h =
     (site-written-back b (sitePlace k) (sites-each 16 b e k (omega arith)))
 
 head-held :
-    (b : List ℕ) → ((i : ℕ) → getD b i 0 < 256) → getD b 0 0 ≡ 1 → atMost 6 b 10 0 ≡ true → putHead b (worldAt b) ≡ b
+    (b : List ℕ) → ((i : ℕ) → getD b i 0 < 256) → getD b 0 0 ≡ layoutNumber → atMost 2 b 14 0 ≡ true → putHead b (worldAt b) ≡ b
 unfolding putHead worldAt
 head-held b small number zeros =
     rw
-    (byte-held b 0 1 (sym number), byte-held b 1 (getD b 1 0) (mod-eq-of-lt (small 1)), word-held b 2 small, word-held b 4 small, word-held b 6 small, word-held b 8 small)
-    (zeros-held 6 b 10 zeros)
+    (byte-held b 0 layoutNumber (sym number), byte-held b 1 (getD b 1 0) (mod-eq-of-lt (small 1)), word-held b 2 small, word-held b 4 small, word-held b 6 small, word-held b 8 small, long-held b 10 small)
+    (zeros-held 2 b 14 zeros)
 
 -- BYTES READ AND WRITTEN: a byte is below 256
 pub bytes-written-back : BytesWrittenBack
@@ -247,26 +291,30 @@ bytes-written-back b e small =
 
 -- the head's first byte and its zeros
 
-head-number : (b : List ℕ) (w : World) → 656 ≤ length b → getD (putHead b w) 0 0 ≡ 1
+head-number : (b : List ℕ) (w : World) → 656 ≤ length b → getD (putHead b w) 0 0 ≡ layoutNumber
 unfolding putHead shifted
 head-number b w room =
-    putNumber-else 6 _ 10 0 0 (λ i l e. omega arith)
+    putNumber-else 2 _ 14 0 0 (λ i l e. omega arith)
+    ∙ putNumber-else 4 _ 10 (w .news) 0 (λ i l e. omega arith)
     ∙ putNumber-else 2 _ 8 (w .rows) 0 (λ i l e. omega arith)
     ∙ putNumber-else 2 _ 6 (w .willing) 0 (λ i l e. omega arith)
     ∙ putNumber-else 2 _ 4 (w .abort .0) 0 (λ i l e. omega arith)
     ∙ putNumber-else 2 _ 2 (w .commit .0) 0 (λ i l e. omega arith)
     ∙ putNumber-else 1 _ 1 (w .n) 0 (λ i l e. omega arith)
-    ∙ putNumber-at 1 b 0 1 0 (omega arith) (omega arith)
+    ∙ putNumber-at 1 b 0 layoutNumber 0 (omega arith) (omega arith)
 
-head-zero : (b : List ℕ) (w : World) (i : ℕ) → 656 ≤ length b → i < 6 → getD (putHead b w) (10 + i) 0 ≡ 0
+head-zero : (b : List ℕ) (w : World) (i : ℕ) → 656 ≤ length b → i < 2 → getD (putHead b w) (14 + i) 0 ≡ 0
 unfolding putHead
 head-zero b w i room h =
-    zero-at 6
+    zero-at 2
+    (putNumber 4
     (putNumber 2
     (putNumber 2
-    (putNumber 2 (putNumber 2 (putNumber 1 (putNumber 1 b 0 1) 1 (w .n)) 2 (w .commit .0)) 4 (w .abort .0)) 6 (w .willing))
+    (putNumber 2 (putNumber 2 (putNumber 1 (putNumber 1 b 0 layoutNumber) 1 (w .n)) 2 (w .commit .0)) 4 (w .abort .0)) 6
+    (w .willing))
     8 (w .rows))
-    10 i h (simp putNumber-length (omega arith))
+    10 (w .news))
+    14 i h (simp putNumber-length (omega arith))
 
 sites-inside :
     (k : ℕ) (b : List ℕ) (w : World) (i : ℕ) → i < k → k ≤ 16 → 656 ≤ length b →
@@ -294,16 +342,16 @@ written-inside b w same =
     let room : 656 ≤ length b = omega arith in
     let long : 656 ≤ length (putHead b w) = rw putHead-length room in
     let size : length (putSites 16 (putHead b w) w) ≡ worldBytes = putSites-length 16 (putHead b w) w ∙ putHead-length b w ∙ same in
-    let number : getD (putSites 16 (putHead b w) w) 0 0 ≡ 1 =
+    let number : getD (putSites 16 (putHead b w) w) 0 0 ≡ layoutNumber =
     putSites-head 16 (putHead b w) w 0 (omega arith) ∙ head-number b w room in
-    let zeros : atMost 6 (putSites 16 (putHead b w) w) 10 0 ≡ true =
-    most-all 6 (putSites 16 (putHead b w) w) 10 0
+    let zeros : atMost 2 (putSites 16 (putHead b w) w) 14 0 ≡ true =
+    most-all 2 (putSites 16 (putHead b w) w) 14 0
     (λ i h.
-    let z : getD (putSites 16 (putHead b w) w) (10 + i) 0 ≡ 0 =
-    putSites-head 16 (putHead b w) w (10 + i) (omega arith) ∙ head-zero b w i room h in
+    let z : getD (putSites 16 (putHead b w) w) (14 + i) 0 ≡ 0 =
+    putSites-head 16 (putHead b w) w (14 + i) (omega arith) ∙ head-zero b w i room h in
     omega arith) in
     rw
-    (eq-eqb (length (putSites 16 (putHead b w) w)) worldBytes size, eq-eqb (getD (putSites 16 (putHead b w) w) 0 0) 1 number, zeros)
+    (eq-eqb (length (putSites 16 (putHead b w) w)) worldBytes size, eq-eqb (getD (putSites 16 (putHead b w) w) 0 0) layoutNumber number, zeros)
     (sites-all 16 (putSites 16 (putHead b w) w) (λ i h. sites-inside 16 (putHead b w) w i h (omega arith) long))
 
 -- bytes inside the layout have a world's length

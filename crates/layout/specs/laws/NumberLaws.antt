@@ -2,12 +2,12 @@
 use Prim.Native.Nat.{ℕ, zero, suc, _+_, _*_, _/_, _%_, _≤_, _<_}
 use mathlib.Core.List.{List}
 use mathlib.Core.Path.{_≡_, refl, _∙_}
-use native.Mathlib.Nat.{add-zero, div-add-mod, div-lt-iff-lt-mul, mod-eq-of-lt}
+use native.Mathlib.Nat.{add-zero, add-assoc, div-add-mod, div-lt-iff-lt-mul, mod-eq-of-lt}
 use native.Mathlib.Omega.{arith}
 use lib.ListN.{length, getD, length-set}
 use lib.Seq.{getD-set-other, set-getD}
 use Rattle.choice.specs.laws.ChoiceLaws.{set-ind}
-use Rattle.layout.specs.Numbers.{shifted, putNumber, wordAt}
+use Rattle.layout.specs.Numbers.{shifted, putNumber, wordAt, longAt}
 
 pub putNumber-length : (k : ℕ) (b : List ℕ) (at x : ℕ) → length (putNumber k b at x) ≡ length b
 unfolding putNumber
@@ -55,6 +55,11 @@ word-written b at x room small =
     let low : getD (putNumber 2 b at x) at 0 ≡ x % 256 = rw add-zero at (putNumber-at 2 b at x 0 (omega arith) room) in
     rw (low, putNumber-at 2 b at x 1 (omega arith) room) (word-whole x small)
 
+-- two bytes hold no more than 16 bits
+pub word-below : (b : List ℕ) (at r : ℕ) → r ≡ wordAt b at → ((i : ℕ) → getD b i 0 < 256) → r < 65536
+unfolding wordAt
+word-below b at r e small = omega (arith, small at, small (at + 1))
+
 -- a number of 16 bits elsewhere
 pub word-same : (b d : List ℕ) (p : ℕ) → getD b p 0 ≡ getD d p 0 → getD b (p + 1) 0 ≡ getD d (p + 1) 0 → wordAt b p ≡ wordAt d p
 unfolding wordAt
@@ -65,3 +70,26 @@ pub word-else :
     wordAt (putNumber k b at x) p ≡ wordAt b p
 word-else k b at x p low high =
     word-same (putNumber k b at x) b p (putNumber-else k b at x p low) (putNumber-else k b at x (p + 1) high)
+
+-- a number of 32 bits by its four bytes
+long-whole :
+    (x : ℕ) → x < 4294967296 →
+    x % 256 + 256 * (x / 256 % 256) + 65536 * (x / 256 / 256 % 256 + 256 * (x / 256 / 256 / 256 % 256)) ≡ x
+long-whole x small =
+    let most : x / 256 < 16777216 = div-lt-iff-lt-mul {k = 256} (omega arith) .1 small in
+    let high : x / 256 / 256 < 65536 = div-lt-iff-lt-mul {k = 256} (omega arith) .1 most in
+    omega (arith, word-whole (x / 256 / 256) high, div-add-mod x 256, div-add-mod (x / 256) 256)
+
+-- a number of 32 bits written and read
+pub long-written : (b : List ℕ) (at x : ℕ) → at + 4 ≤ length b → x < 4294967296 → longAt (putNumber 4 b at x) at ≡ x
+unfolding longAt wordAt shifted
+long-written b at x room small =
+    let low : getD (putNumber 4 b at x) at 0 ≡ x % 256 = rw add-zero at (putNumber-at 4 b at x 0 (omega arith) room) in
+    let top : getD (putNumber 4 b at x) (at + 2 + 1) 0 ≡ x / 256 / 256 / 256 % 256 =
+    rw add-assoc (putNumber-at 4 b at x 3 (omega arith) room) in
+    rw (low, putNumber-at 4 b at x 1 (omega arith) room, putNumber-at 4 b at x 2 (omega arith) room, top) (long-whole x small)
+
+-- a number of 32 bits elsewhere
+pub long-same : (b d : List ℕ) (p : ℕ) → wordAt b p ≡ wordAt d p → wordAt b (p + 2) ≡ wordAt d (p + 2) → longAt b p ≡ longAt d p
+unfolding longAt
+long-same b d p low high = rw (low, high)

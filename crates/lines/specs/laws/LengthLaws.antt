@@ -1,13 +1,13 @@
--- How long each line can be, whatever the world.
-use Prim.Native.Nat.{ℕ, zero, suc, _*_, _≤_}
+-- How long each line of a valid world can be.
+use Prim.Native.Nat.{ℕ, zero, suc, _+_, _*_, _-_, _≤_}
 use mathlib.Core.Bool.{Bool, true, false}
 use mathlib.Core.List.{List}
 use mathlib.Core.Path.{_≡_, refl}
 use native.Mathlib.Omega.{arith}
 use lib.ListN.{length, length-append}
 use Rattle.choice.specs.laws.Cases.{by-equal}
-use Rattle.text.specs.Text.{text, named}
-use Rattle.text.specs.laws.DecimalLaws.{decimal-length}
+use Rattle.text.specs.Text.{text, decimal, named}
+use Rattle.text.specs.laws.DecimalLaws.{by-unit, decimal-below}
 use Rattle.site.specs.declared.Group.{Group}
 use Rattle.site.specs.declared.Group.the-variants as Group·
 use Rattle.site.specs.declared.Outcome.{Outcome}
@@ -18,8 +18,9 @@ use Rattle.site.specs.declared.Site.{Site}
 use Rattle.site.specs.State.{stateOf}
 use Rattle.world.specs.declared.World.{World}
 use Rattle.world.specs.Worlds.{siteOf}
+use Rattle.world.specs.Valid.{validWorld}
 use Rattle.lines.specs.Lines.{upWord, roleWord, stateWord, prepareLetter, groupLetter, outcomeLetter, logLetters, codeDigits, sizesLine, siteLine, siteLines, lastLine}
-use Rattle.lines.specs.laws.LineLaws.{last-end, last-refused}
+use Rattle.lines.specs.laws.LineLaws.{SmallSizes, small-sizes, last-end, last-refused}
 
 up-length : (up : Bool) → length (text (upWord up)) ≤ 6
 unfolding text upWord
@@ -68,27 +69,35 @@ unfolding codeDigits
 digits-length zero v = refl
 digits-length (suc k) v = simp length-append (omega (arith, digits-length k v))
 
-pub sizes-length : (w : World) (events : ℕ) → length (sizesLine w events) ≤ 66
+-- n, C and A have at most two digits, events five, rows four, news six
+pub sizes-length : (w : World) (events : ℕ) → validWorld w ≡ true → events ≤ 32768 → length (sizesLine w events) ≤ 63
 unfolding sizesLine named text
-sizes-length w events =
+sizes-length w events e h =
+    let s : SmallSizes w = small-sizes w e in
     simp length-append
-    (omega (arith, decimal-length (w .n), decimal-length (w .commit .0), decimal-length (w .abort .0), decimal-length events, decimal-length (w .rows)))
+    (omega (arith, decimal-below 2 (w .n) (omega arith) (omega arith), decimal-below 2 (w .commit .0) (omega arith) (omega arith), decimal-below 2 (w .abort .0) (omega arith) (omega arith), decimal-below 5 events (omega arith) (omega arith), decimal-below 4 (w .rows) (omega arith) (omega arith), decimal-below 6 (w .news) (omega arith) (omega arith)))
 
-site-length : (i n : ℕ) (s : Site) → n ≤ 16 → length (siteLine i n s) ≤ 58
+site-length : (i n : ℕ) (s : Site) → n ≤ 16 → length (siteLine i n s) ≤ 52 + length (decimal i)
 unfolding siteLine text
 site-length i n s h =
     simp length-append
-    (omega (arith, decimal-length i, up-length (s .up), role-length (s .coordinator), state-length (stateOf s), log-length s, digits-length n (s .codes)))
+    (omega (arith, up-length (s .up), role-length (s .coordinator), state-length (stateOf s), log-length s, digits-length n (s .codes)))
 
-pub sites-length : (k : ℕ) (w : World) → w .n ≤ 16 → length (siteLines k w) ≤ 58 * k
+-- a site's number has one digit below 10, two from there on
+pub sites-length : (k : ℕ) (w : World) → k ≤ 16 → w .n ≤ 16 → length (siteLines k w) ≤ 53 * k + (k - 10)
 unfolding siteLines
-sites-length zero w h = omega arith
-sites-length (suc k) w h =
-    simp length-append (omega (arith, sites-length k w h, site-length k (w .n) (siteOf w k) h))
+sites-length zero w l h = omega arith
+sites-length (suc k) w l h =
+    simp length-append
+    (by-unit 10 k
+    (λ q. omega (arith, sites-length k w (omega arith) h, site-length k (w .n) (siteOf w k) h, decimal-below 2 k (omega arith) (omega arith)))
+    (λ q. omega (arith, sites-length k w (omega arith) h, site-length k (w .n) (siteOf w k) h, decimal-below 1 k (omega arith) (omega arith))))
 
-pub last-length : (number place : ℕ) → length (lastLine number place) ≤ 25
+-- a number has at most two digits, a place five
+pub last-length : (number place : ℕ) → number ≤ 18 → place ≤ 32768 → length (lastLine number place) ≤ 20
 unfolding named text
-last-length number place =
+last-length number place h l =
     by-equal number 0
-    (λ h. rw (last-end number place h) (simp length-append (omega (arith, decimal-length place))))
-    (λ h. rw (last-refused number place h) (simp length-append (omega (arith, decimal-length number, decimal-length place))))
+    (λ q. rw (last-end number place q) (simp length-append (omega (arith, decimal-below 5 place (omega arith) (omega arith)))))
+    (λ q. rw (last-refused number place q)
+    (simp length-append (omega (arith, decimal-below 2 number (omega arith) (omega arith), decimal-below 5 place (omega arith) (omega arith)))))

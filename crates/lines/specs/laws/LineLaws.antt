@@ -14,6 +14,7 @@ use Rattle.text.specs.Text.{text, named}
 use Rattle.vector.specs.Vector.{validEntry, validEntries, validVector}
 use Rattle.site.specs.State.{stateOf, codeOf}
 use Rattle.world.specs.declared.World.{World}
+use Rattle.world.specs.Sizes.{maxNews}
 use Rattle.world.specs.Worlds.{siteOf}
 use Rattle.world.specs.Valid.{validGroup, validSite, validWorld}
 use Rattle.world.specs.laws.SizesLaws.{Sized}
@@ -52,6 +53,7 @@ pub record SmallSizes (w : World) : Type 0 where
   pub commit-small : w .commit .0 ≤ 16
   pub abort-small : w .abort .0 ≤ 16
   pub rows-small : w .rows ≤ 1024
+  pub news-small : w .news ≤ maxNews
 
 pub small-sizes : (w : World) → validWorld w ≡ true → SmallSizes w
 small-sizes w e =
@@ -61,6 +63,7 @@ small-sizes w e =
       commit-small = omega arith;
       abort-small = omega arith;
       rows-small = valid-parts w e .rows;
+      news-small = valid-parts w e .news;
     }
 
 -- the two last lines

@@ -1,12 +1,12 @@
 -- Laws of one command, for the play of lists.
-use Prim.Native.Nat.{ℕ, _≤_, _<_}
+use Prim.Native.Nat.{ℕ, _+_, _-_, _≤_, _<_}
 use mathlib.Core.Bool.{true}
 use mathlib.Core.List.{List}
 use mathlib.Core.Path.{_≡_, ap}
 use lib.ListN.{length}
 use Rattle.choice.specs.laws.Cases.{by-equal}
 use Rattle.world.specs.declared.World.{World}
-use Rattle.world.specs.Sizes.{storeBytes}
+use Rattle.world.specs.Sizes.{maxNews, storeBytes}
 use Rattle.world.specs.Valid.{validWorld}
 use Rattle.play.specs.Commands.{playCommand, oneCommand}
 use Rattle.play.specs.laws.CallLaws.{one-is-play}
@@ -14,7 +14,7 @@ use Rattle.safety.specs.Claims.{Shaped, Unchanged}
 use Rattle.safety.specs.laws.Unchanging.{refused-changes-nothing, accepted-keeps-the-rest}
 use Rattle.safety.specs.laws.Shape.{shaped-kept}
 use Rattle.safety.specs.laws.Validity.{valid-stays-valid}
-use Rattle.list.specs.laws.Places.{placed}
+use Rattle.list.specs.laws.Places.{Told, placed}
 
 -- the place where accepted
 pub place-after :
@@ -23,8 +23,16 @@ pub place-after :
 place-after w store list at e =
     (placed w store list at .accepted e .after, placed w store list at .accepted e .within)
 
-pub number-below : (w : World) (store list : List ℕ) (at : ℕ) → playCommand w store list at .number ≤ 15
-number-below w store list at = placed w store list at .small
+-- a number to 15, where the news has room
+pub number-below :
+    (w : World) (store list : List ℕ) (at : ℕ) → w .news + (w .n - 1) ≤ maxNews → playCommand w store list at .number ≤ 15
+number-below w store list at room = placed w store list at .small room
+
+-- the news where accepted
+pub news-told :
+    (w : World) (store list : List ℕ) (at : ℕ) → playCommand w store list at .number ≡ 0 →
+    Told w at (playCommand w store list at .place) (playCommand w store list at .news)
+news-told w store list at e = placed w store list at .told e
 
 -- a refused command leaves world and store
 pub refused-same :

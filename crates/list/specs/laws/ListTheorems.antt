@@ -1,18 +1,20 @@
 -- The theorems of lists.
-use Prim.Native.Nat.{ℕ, zero, suc, _+_, _≤_}
-use mathlib.Core.Bool.{true}
+use Prim.Native.Nat.{ℕ, zero, suc, _+_, _-_, _≤_}
+use mathlib.Core.Bool.{true, false}
 use mathlib.Core.List.{List, [], _∷_}
-use mathlib.Core.Path.{_≡_, refl}
+use mathlib.Core.Path.{_≡_, refl, ap}
 use native.Mathlib.Omega.{arith}
 use lib.Dec.{ltb, eqb}
 use lib.ListN.{length}
 use borrow.Author.Tests.{ltb-false, eqb-true, eqb-false, ne-eqb}
 use Rattle.choice.specs.Choice.{pick}
 use Rattle.choice.specs.laws.ChoiceLaws.{pick-ind}
+use Rattle.choice.specs.laws.Cases.{by-test, by-equal}
 use Rattle.world.specs.declared.World.{World}
-use Rattle.world.specs.Sizes.{storeBytes}
+use Rattle.world.specs.Sizes.{maxNews, listBytes, storeBytes}
 use Rattle.world.specs.Worlds.{zeroWorld}
 use Rattle.world.specs.Valid.{validWorld}
+use Rattle.world.specs.laws.WorldLaws.{valid-sized}
 use Rattle.play.specs.Calls.{Call}
 use Rattle.play.specs.Commands.{oneCommand}
 use Rattle.play.specs.Run.{Ask, run, callOf, afterCall}
@@ -20,10 +22,12 @@ use Rattle.play.specs.laws.CallLaws.{one-is-play}
 use Rattle.safety.specs.Claims.{Shaped}
 use Rattle.safety.specs.laws.Unchanging.{refused-changes-nothing}
 use Rattle.safety.specs.laws.Demand3.{demand3}
+use Rattle.safety.specs.laws.News.{run-adds}
 use Rattle.list.specs.Play.{Play, headerOf, headerNumber, headerWorld, stopped, afterAsk, askAt, playFrom, refusedList, playList}
-use Rattle.list.specs.Claims.{OfList, ListIsRun, ListSafe, Ends, ListEnds}
+use Rattle.list.specs.Claims.{OfList, IsRun, ListIsRun, ListSafe, ListNewsIsSum, ListNewsIsLow, Ends, ListEnds}
 use Rattle.list.specs.laws.CommandLaws.{number-below}
 use Rattle.list.specs.laws.PlayLaws.{play-ind, Further, further-one}
+use Rattle.list.specs.laws.ListNews.{header-none, Heard, heard-first, heard-low, heard-on}
 use Rattle.list.specs.laws.HeaderLaws.{headed, header-valid, header-shaped, header-small, whole-from}
 
 -- demand 3: a list's records are those of a run
@@ -88,45 +92,95 @@ list-is-run store list room e =
     rw (whole-from store list e room) (from-is-run (length list) (headerWorld list) store list 5 0) in
     record { of-list = r .of-list; one-each = omega (arith, r .one-each); same-world = r .same-world; same-store = r .same-store }
 
+-- a claim of a whole play, shown where a store that is too short or a header is refused, and of a run
+
+short-refused : (store list : List ℕ) → ltb (length store) storeBytes ≡ true → playList store list ≡ refusedList 16 store
+unfolding playList
+short-refused store list e = rw e
+
+header-refused :
+    (store list : List ℕ) → ltb (length store) storeBytes ≡ false → (headerNumber list ≡ 0 → ⊥) →
+    playList store list ≡ refusedList (headerNumber list) store
+unfolding playList
+header-refused store list e f = rw (e, ne-eqb (headerNumber list) 0 f)
+
+pub by-run :
+    (P : Play → Type 0) (store list : List ℕ) → ((number : ℕ) → P (refusedList number store)) →
+    (IsRun (headerWorld list) store list (playList store list) → P (playList store list)) → P (playList store list)
+by-run P store list refused ran =
+    by-test (ltb (length store) storeBytes) (λ short. rw (short-refused store list short) (refused 16))
+    (λ room. by-equal (headerNumber list) 0
+    (λ e. ran (list-is-run store list (ltb-false (length store) storeBytes room) e))
+    (λ e. rw (header-refused store list room e) (refused (headerNumber list))))
+
+-- the news of a list's world is the sum of its calls' news
+pub list-news-is-sum : ListNewsIsSum
+unfolding refusedList stopped zeroWorld run
+list-news-is-sum store list =
+    by-run (λ p. p .played .world .news ≡ run (headerWorld list) store (p .asks) .news) store list (λ number. refl)
+    (λ r. omega (arith, ap (λ w. w .news) (r .same-world), run-adds (headerWorld list) store (playList store list .asks), header-none list))
+
+-- a play that has ended, and whose news is low
+record Ended (list : List ℕ) (p : Play) : Type 0 where
+  ends : Ends list p
+  low : p .played .world .news ≤ 122850
+
 -- a stop within the list, at a number of the table; at 0 only where the list ends
-ends-stopped :
+ended-stopped :
     (number : ℕ) (w : World) (store list : List ℕ) (at events : ℕ) (asks : List Ask) → number ≤ 16 → at ≤ length list →
-    (number ≡ 0 → at ≡ length list) → Ends list (stopped number w store at events asks)
+    (number ≡ 0 → at ≡ length list) → w .news ≤ 122850 → Ended list (stopped number w store at events asks)
 unfolding stopped
-ends-stopped number w store list at events asks k h z = record { in-table = k; to-the-end = z; within = h }
+ended-stopped number w store list at events asks k h z few =
+    record { ends = record { in-table = k; to-the-end = z; within = h }; low = few }
 
-ends-after : (list : List ℕ) (ask : Ask) (p : Play) → Ends list p → Ends list (afterAsk ask p)
+ended-after : (list : List ℕ) (ask : Ask) (p : Play) → Ended list p → Ended list (afterAsk ask p)
 unfolding afterAsk
-ends-after list ask p q = record { in-table = q .in-table; to-the-end = q .to-the-end; within = q .within }
+ended-after list ask p q =
+    record {
+      ends = record { in-table = q .ends .in-table; to-the-end = q .ends .to-the-end; within = q .ends .within };
+      low = q .low;
+    }
 
-from-ends :
+from-ended :
     (fuel : ℕ) (w : World) (store list : List ℕ) (at events : ℕ) → at ≤ length list → length list ≤ at + fuel →
-    storeBytes ≤ length store → validWorld w ≡ true → Shaped w → Ends list (playFrom fuel w store list at events)
+    storeBytes ≤ length store → validWorld w ≡ true → Shaped w → length list ≤ listBytes → Heard w at →
+    Ended list (playFrom fuel w store list at events)
 unfolding playFrom
-from-ends zero w store list at events h fuelled room valid shaped =
-    ends-stopped 0 w store list at events [] (omega arith) h (λ _. omega arith)
-from-ends (suc fuel) w store list at events h fuelled room valid shaped =
+from-ended zero w store list at events h fuelled room valid shaped most heard =
+    ended-stopped 0 w store list at events [] (omega arith) h (λ _. omega arith) (heard-low w at heard (omega arith))
+from-ended (suc fuel) w store list at events h fuelled room valid shaped most heard =
     let c : Call = oneCommand w store list at in
-    play-ind (Ends list) fuel w store list at events
-    (λ l. ends-stopped 0 w store list at events [] (omega arith) h (λ _. omega arith))
-    (λ _ e. ends-stopped (c .number) w store list at events (askAt list at ∷ [])
-    (rw (one-is-play w store list at room valid) (omega (arith, number-below w store list at))) h (λ z. absurd (e z)))
+    let low : w .news ≤ 122850 = heard-low w at heard (omega arith) in
+    let news-room : w .news + (w .n - 1) ≤ maxNews = omega (arith, low, valid-sized w valid .high) in
+    play-ind (Ended list) fuel w store list at events
+    (λ l. ended-stopped 0 w store list at events [] (omega arith) h (λ _. omega arith) low)
+    (λ _ e. ended-stopped (c .number) w store list at events (askAt list at ∷ [])
+    (rw (one-is-play w store list at room valid) (omega (arith, number-below w store list at news-room))) h (λ z. absurd (e z)) low)
     (λ _ e. let k : Further list at c = further-one w store list at room valid shaped e in
-    ends-after list (askAt list at) (playFrom fuel (c .world) (c .store) list (c .place) (events + 1))
-    (from-ends fuel (c .world) (c .store) list (c .place) (events + 1) (k .within) (omega arith) (k .room) (k .valid) (k .shaped)))
+    ended-after list (askAt list at) (playFrom fuel (c .world) (c .store) list (c .place) (events + 1))
+    (from-ended fuel (c .world) (c .store) list (c .place) (events + 1) (k .within) (omega arith) (k .room) (k .valid) (k .shaped)
+    most (heard-on w store list at room valid shaped e heard)))
+
+list-ended : (store list : List ℕ) → Ended list (playList store list)
+unfolding playList refusedList zeroWorld
+list-ended store list =
+    pick-ind (Ended list) (ltb (length store) storeBytes) (refusedList 16 store)
+    (pick (eqb (headerNumber list) 0) (playFrom (length list) (headerWorld list) store list 5 0)
+    (refusedList (headerNumber list) store))
+    (λ _. ended-stopped 16 zeroWorld store list 0 0 [] (omega arith) (omega arith) (λ z. absurd (omega arith)) (omega arith))
+    (λ room. pick-ind (Ended list) (eqb (headerNumber list) 0) (playFrom (length list) (headerWorld list) store list 5 0)
+    (refusedList (headerNumber list) store)
+    (λ e. let head : headerNumber list ≡ 0 = eqb-true (headerNumber list) 0 e in
+    from-ended (length list) (headerWorld list) store list 5 0 (headed list head .header) (omega arith)
+    (ltb-false (length store) storeBytes room) (header-valid list head) (header-shaped list)
+    (headed list head .small) (heard-first list))
+    (λ e. ended-stopped (headerNumber list) zeroWorld store list 0 0 [] (omega (arith, header-small list)) (omega arith)
+    (λ z. absurd (eqb-false (headerNumber list) 0 e z)) (omega arith)))
 
 -- every list is played to its end or stopped, and never at 17
 pub list-ends : ListEnds
-unfolding playList refusedList
-list-ends store list =
-    pick-ind (Ends list) (ltb (length store) storeBytes) (refusedList 16 store)
-    (pick (eqb (headerNumber list) 0) (playFrom (length list) (headerWorld list) store list 5 0)
-    (refusedList (headerNumber list) store))
-    (λ _. ends-stopped 16 zeroWorld store list 0 0 [] (omega arith) (omega arith) (λ z. absurd (omega arith)))
-    (λ room. pick-ind (Ends list) (eqb (headerNumber list) 0) (playFrom (length list) (headerWorld list) store list 5 0)
-    (refusedList (headerNumber list) store)
-    (λ e. let head : headerNumber list ≡ 0 = eqb-true (headerNumber list) 0 e in
-    from-ends (length list) (headerWorld list) store list 5 0 (headed list head .header) (omega arith)
-    (ltb-false (length store) storeBytes room) (header-valid list head) (header-shaped list))
-    (λ e. ends-stopped (headerNumber list) zeroWorld store list 0 0 [] (omega (arith, header-small list)) (omega arith)
-    (λ z. absurd (eqb-false (headerNumber list) 0 e z))))
+list-ends store list = list-ended store list .ends
+
+-- its news is too low for that
+pub list-news-is-low : ListNewsIsLow
+list-news-is-low store list = list-ended store list .low

@@ -51,7 +51,7 @@ module _ {p : Play} (w : World) {store list : List ℕ} {at events : ℕ} {readi
   unfolding headOf worldOf
   call-is = acts-played (w .sites) (headOf w) store list at reading own s c after e f g acts
 
-  -- accepted: the next turn begins with the site put back and the row count changed
+  -- accepted: the next turn begins with the site put back, the row count and the news changed
   pub changes-on : c .number ≡ 0 → Underway p (changed w own c .world) after list (c .place) (events + 1)
   unfolding changed
   changes-on = steps-on p w store list at events (changed w own c) after u left (call-is .0) (call-is .1)

@@ -2,7 +2,7 @@ use native.Mathlib.Omega.{arith}
 use Prim.Native.Nat.{_<_}
 use lib.ListN.{length, length-map}
 use denote.Ref.{now}
-use Rattle.world.specs.Worlds.{withSite, withRows}
+use Rattle.world.specs.Worlds.{withSite, withRows, withNews}
 use Rattle.world.specs.laws.PartLaws.{siteOf-within}
 use Rattle.play.specs.laws.Changes.{headOf, worldOf, changed}
 use Rattle.play.specs.laws.CallLaws.{acts-played}
@@ -49,7 +49,7 @@ same-length : tie.Need-same-length
 same-length c = search needs
 
 returns : tie.Need-returns
-unfolding headOf worldOf changed withSite withRows
+unfolding headOf worldOf changed withSite withRows withNews
 returns c =
     let w = c .before .before .before .before .before .before .before .before .before .before .before .args .world in
     let own = c .before .before .before .before .before .before .before .actor .result in

@@ -1,6 +1,6 @@
--- A command acts on one site. What it is told beside that site is the world's head, and what it changes is that site and the row
--- count. These definitions say which call on a whole world such a change stands for.
-use Prim.Native.Nat.{ℕ, _≤_}
+-- A command acts on one site. What it is told beside that site is the world's head, and what it changes is that site, the row
+-- count and the news. These definitions say which call on a whole world such a change stands for.
+use Prim.Native.Nat.{ℕ, _+_, _≤_}
 use mathlib.Core.List.{List}
 use mathlib.Core.Path.{_≡_}
 use lib.Dec.{ltb}
@@ -12,7 +12,8 @@ use Rattle.command.specs.declared.Command.the-variants as Command·
 use Rattle.command.specs.declared.Reading.{Reading}
 use Rattle.command.specs.declared.Reading.the-variants as Reading·
 use Rattle.world.specs.declared.World.{World}
-use Rattle.world.specs.Worlds.{siteOf, withSite, withRows}
+use Rattle.world.specs.Sizes.{maxNews}
+use Rattle.world.specs.Worlds.{siteOf, withSite, withRows, withNews}
 use Rattle.play.specs.declared.Played.{Played}
 use Rattle.play.specs.declared.Head.{Head}
 use Rattle.play.specs.declared.Change.{Change}
@@ -20,7 +21,7 @@ use Rattle.play.specs.Calls.{Call, playedOf}
 
 -- a world without its sites
 unfoldable pub headOf : World → Head
-headOf w = record { n = w .n; commit = w .commit; abort = w .abort; willing = w .willing; rows = w .rows }
+headOf w = record { n = w .n; commit = w .commit; abort = w .abort; willing = w .willing; rows = w .rows; news = w .news }
 
 -- the world of these sites and this head
 unfoldable pub worldOf : List Site → Head → World
@@ -32,23 +33,29 @@ worldOf sites h =
       abort = h .abort;
       willing = h .willing;
       rows = h .rows;
+      news = h .news;
     }
 
--- what lets a command be played with no further check: sizes in range, rows that the store can hold
+-- what lets a command be played with no further check: sizes in range, rows that the store can hold, news within its limit
 pub record Ready (h : Head) (store : List ℕ) : Type 0 where
   pub low : 3 ≤ h .n
   pub high : h .n ≤ 16
   pub few : h .rows ≤ 1024
+  pub heard : h .news ≤ maxNews
   pub room : 20480 ≤ length store
 
 -- nothing changed
 unfoldable pub refusedChange : ℕ → Head → ℕ → Site → Change
-refusedChange number h at s = record { number = number; site = s; rows = h .rows; place = at }
+refusedChange number h at s = record { number = number; site = s; rows = h .rows; news = h .news; place = at }
+
+-- accepted: the site, so many rows now, and the news added to that before
+unfoldable pub enteredChange : Site → ℕ → ℕ → ℕ → ℕ → Change
+enteredChange s rows before news next = record { number = 0; site = s; rows = rows; news = before + news; place = next }
 
 -- a change at site i put into the world
 unfoldable pub changed : World → ℕ → Change → Played
 changed w i c =
-    record { number = c .number; world = withRows (c .rows) (withSite i (c .site) w); place = c .place }
+    record { number = c .number; world = withNews (c .news) (withRows (c .rows) (withSite i (c .site) w)); place = c .place }
 
 -- in every world with this head, and with this site at i, the change and the store left are what the call gives
 unfoldable pub Acts : Head → ℕ → Site → Change → List ℕ → (World → Call) → Type 0

@@ -46,6 +46,7 @@ valid-fits w shaped valid =
       abort-fits = omega (arith, z .high, z .abort-below);
       willing-fits = omega (arith, z .willing-below, bits-below (w .n) (z .high));
       rows-fit = omega (arith, valid-parts w valid .rows);
+      news-fits = omega (arith, valid-parts w valid .news);
     }
 
 -- the world of zeros fits too: it is the maker's for sizes 0
@@ -65,6 +66,7 @@ zero-fits =
       abort-fits = omega arith;
       willing-fits = omega arith;
       rows-fit = omega arith;
+      news-fits = omega arith;
     }
 
 -- what a play hands back fits: its world, its place within the list, and no more events than bytes passed

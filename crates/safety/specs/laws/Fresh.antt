@@ -31,6 +31,7 @@ newWorld n c a willing =
       abort = a;
       willing = willing;
       rows = 0;
+      news = 0;
     }
 
 pub fresh-new : (n : ℕ) (c : CommitQuorum) (a : AbortQuorum) (willing : ℕ) → sizesNumber n c a willing ≡ 0 → freshWorld n c a willing ≡ newWorld n c a willing

@@ -42,6 +42,7 @@ fresh-valid n c a willing e =
     (record {
       sizes = e;
       rows = omega arith;
+      news = omega arith;
       sites = λ k h.
           fresh-blank (λ x. validSite k n x ≡ true) (blank-valid k n true (omega arith)) (blank-valid k n false (omega arith))
           n k (s .high) (omega arith);

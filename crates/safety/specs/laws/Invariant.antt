@@ -15,8 +15,8 @@ use Rattle.site.specs.Records.{Written}
 use Rattle.rules.specs.Rules.{Move}
 use Rattle.world.specs.declared.World.{World}
 use Rattle.world.specs.Sizes.{maxRows, storeBytes}
-use Rattle.world.specs.Worlds.{siteOf, isWilling, withSite, withRows}
-use Rattle.play.specs.Calls.{Call, refuse, enterSilent, enterRow}
+use Rattle.world.specs.Worlds.{siteOf, isWilling, withSite, withRows, withNews}
+use Rattle.play.specs.Calls.{Call, refuse, putBack, enterSilent, enterRow}
 use Rattle.safety.specs.laws.View.{Turn, by-start, by-timeout, by-deliver, by-crash, by-recover, Seen, as-refused, as-silent, as-row}
 use Rattle.choice.specs.laws.Cases.{by-equal}
 use Rattle.safety.specs.laws.HistoryLaws.{grown-append}
@@ -80,7 +80,7 @@ module _ (w : World) (store : List ℕ) (H : List Written) (inv : Invariant w st
   -- a call that sends nothing, and one that sends a row
   after-silent : (next own : ℕ) (m : Move) → own < w .n → FairMove (termsOf w) own H m →
       Invariant (enterSilent w store next own m .world) store (H ++ m .records)
-  unfolding enterSilent withSite siteOf
+  unfolding enterSilent withSite siteOf putBack withNews
   after-silent next own m less f =
       record {
         history = f .fair .standing .history;
@@ -93,7 +93,7 @@ module _ (w : World) (store : List ℕ) (H : List Written) (inv : Invariant w st
   after-row : (next own : ℕ) (m : Move) → own < w .n → storeBytes ≤ length store → (m .step .row .kind ≡ 0 → ⊥) → w .rows < maxRows →
       FairMove (termsOf w) own H m →
       Invariant (enterRow w store next own m .world) (enterRow w store next own m .store) (H ++ m .records)
-  unfolding enterRow withSite withRows siteOf rowPlace
+  unfolding enterRow withSite withRows siteOf rowPlace putBack withNews
   after-row next own m less long some room f =
       record {
         history = f .fair .standing .history;
@@ -110,7 +110,7 @@ module _ (w : World) (store : List ℕ) (H : List Written) (inv : Invariant w st
 
   -- a call keeps the invariant
   pub call-keeps : (r : Call) → Seen w store r → Invariant (r .world) (r .store) (H ++ r .records)
-  unfolding refuse enterSilent enterRow
+  unfolding refuse enterSilent enterRow putBack withNews
   call-keeps r (as-refused number place other) = rw append-nil inv
   call-keeps r (as-silent next own m granted none) =
       after-silent next own m (granted .below) (fair-turn own m (granted .below) (granted .turn))

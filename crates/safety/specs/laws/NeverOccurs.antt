@@ -1,14 +1,9 @@
 -- Theorem 2: an accepted delivery finds no conflict, and its join commit no active site.
 use Prim.Native.Nat.{ℕ, _+_, _≤_, _<_}
-use mathlib.Core.Bool.{true}
 use mathlib.Core.List.{List, [], _++_}
 use mathlib.Core.Path.{_≡_, ap, _∙_}
 use native.Mathlib.Omega.{arith}
-use lib.Dec.{ltb}
-use lib.ListN.{length, getD}
-use borrow.Author.Tests.{ltb-true}
-use Rattle.choice.specs.Choice.{pick}
-use Rattle.choice.specs.laws.ChoiceLaws.{pick-ind}
+use lib.ListN.{getD}
 use Rattle.vector.specs.Vector.{siteWeight}
 use Rattle.row.specs.declared.Row.{Row}
 use Rattle.row.specs.Rows.{getRow}
@@ -22,11 +17,10 @@ use Rattle.command.specs.declared.Command.the-variants as Command·
 use Rattle.command.specs.declared.Delivery.{Delivery}
 use Rattle.command.specs.Commands.{readCommand, found}
 use Rattle.world.specs.declared.World.{World}
-use Rattle.world.specs.Sizes.{storeBytes, sizesNumber}
+use Rattle.world.specs.Sizes.{sizesNumber}
 use Rattle.world.specs.Worlds.{siteOf, zeroWorld}
 use Rattle.world.specs.Valid.{validWorld}
-use Rattle.play.specs.Calls.{refuse}
-use Rattle.play.specs.Commands.{deliverRow, deliverCall, perform, performRead, playCommand, oneCommand}
+use Rattle.play.specs.Calls.{Call}
 use Rattle.play.specs.Run.{Ask, Ran, run, callOf}
 use Rattle.safety.specs.Claims.{NoConflict, Delivered, NeverOccurs}
 use Rattle.choice.specs.laws.Cases.{by-equal}
@@ -40,43 +34,8 @@ use Rattle.safety.specs.laws.Fair.{Standing, FairNoted}
 use Rattle.safety.specs.laws.FairDeliver.{standing-hear, fair-adopt}
 use Rattle.safety.specs.laws.Invariant.{Invariant, termsOf, standing}
 use Rattle.safety.specs.laws.Fresh.{newWorld, fresh-new, fresh-zero, zero-invalid, new-invariant}
+use Rattle.safety.specs.laws.Deliveries.{Delivering, delivering}
 use Rattle.safety.specs.laws.Runs.{seen, run-keeps, call-stuck, run-stuck}
-
--- what an accepted delivery has made sure of
-record Delivering (w : World) (k i : ℕ) : Type 0 where
-  valid : validWorld w ≡ true
-  site-below : i < w .n
-  row-below : k < w .rows
-
--- neither 8 nor 9
-delivery-below :
-    (w : World) (store : List ℕ) (at next k i : ℕ) →
-    deliverCall w store at next k i .number ≡ 0 → (i < w .n) × (k < w .rows)
-unfolding deliverCall refuse
-delivery-below w store at next k i =
-    pick-ind (λ r. r .number ≡ 0 → (i < w .n) × (k < w .rows)) (ltb i (w .n))
-    (pick (ltb k (w .rows)) (deliverRow w store at next (getRow store k) i) (refuse 9 w store at)) (refuse 8 w store at)
-    (λ below. pick-ind (λ r. r .number ≡ 0 → (i < w .n) × (k < w .rows)) (ltb k (w .rows))
-    (deliverRow w store at next (getRow store k) i) (refuse 9 w store at)
-    (λ there e. (ltb-true i (w .n) below, ltb-true k (w .rows) there)) (λ there e. absurd (omega arith)))
-    (λ below e. absurd (omega arith))
-
--- neither 16 nor 17, and the command read is the delivery
-delivering : (w : World) (store : List ℕ) (ask : Ask) (d : Delivery) (next : ℕ) →
-    readCommand (ask .list) (ask .place) ≡ found (Command·.Deliver d) next → callOf w store ask .number ≡ 0 →
-    Delivering w (d .row) (d .site)
-unfolding callOf oneCommand playCommand performRead perform found refuse
-delivering w store ask d next reading =
-    pick-ind (λ r. r .number ≡ 0 → Delivering w (d .row) (d .site)) (ltb (length store) storeBytes) (refuse 16 w store (ask .place))
-    (pick (validWorld w) (playCommand w store (ask .list) (ask .place)) (refuse 17 w store (ask .place)))
-    (λ short e. absurd (omega arith))
-    (λ long. pick-ind (λ r. r .number ≡ 0 → Delivering w (d .row) (d .site)) (validWorld w)
-    (playCommand w store (ask .list) (ask .place)) (refuse 17 w store (ask .place))
-    (λ valid e.
-    let b : (d .site < w .n) × (d .row < w .rows) =
-    delivery-below w store (ask .place) next (d .row) (d .site) (rw reading at e) in
-    record { valid = valid; site-below = b .0; row-below = b .1 })
-    (λ invalid e. absurd (omega arith)))
 
 -- true codes do not conflict
 no-conflict : (t : Terms) (H : List Written) (v : List ℕ) → TrueHistory t H → 1 ≤ t .commit →
@@ -90,9 +49,9 @@ no-conflict t H v true-of some more true-v =
 
 -- where the invariant holds, a delivery finds no conflict and no active site
 delivered :
-    (w : World) (store : List ℕ) (H : List Written) (k i : ℕ) → Invariant w store H → Delivering w k i →
+    (w : World) (store : List ℕ) (H : List Written) (k i : ℕ) (c : Call) → Invariant w store H → Delivering w store k i c →
     Delivered w store k i
-delivered w store H k i inv d =
+delivered w store H k i c inv d =
     let s : Sized (w .n) (w .commit) (w .abort) (w .willing) = valid-sized w (d .valid) in
     let more : totalWeight siteWeight (w .n) < w .commit .0 + w .abort .0 = omega (arith, total-sites (w .n)) in
     let row : Row = getRow store k in
@@ -120,11 +79,12 @@ new-never : (n : ℕ) (c : CommitQuorum) (a : AbortQuorum) (willing : ℕ) (stor
     readCommand (ask .list) (ask .place) ≡ found (Command·.Deliver d) next →
     callOf (run (newWorld n c a willing) store asks .world) (run (newWorld n c a willing) store asks .store) ask .number ≡ 0 →
     Delivered (run (newWorld n c a willing) store asks .world) (run (newWorld n c a willing) store asks .store) (d .row) (d .site)
+unfolding callOf
 new-never n c a willing store asks ask d next few reading accepted =
     let r : Ran = run (newWorld n c a willing) store asks in
-    delivered (r .world) (r .store) (r .records) (d .row) (d .site)
+    delivered (r .world) (r .store) (r .records) (d .row) (d .site) (callOf (r .world) (r .store) ask)
     (run-keeps (newWorld n c a willing) store asks [] (new-invariant n c a willing store few))
-    (delivering (r .world) (r .store) ask d next reading accepted)
+    (delivering (r .world) (r .store) (ask .list) (ask .place) d next reading accepted)
 
 zero-never : (store : List ℕ) (asks : List Ask) (ask : Ask) →
     callOf (run zeroWorld store asks .world) (run zeroWorld store asks .store) ask .number ≡ 0 → ⊥

@@ -5,6 +5,7 @@ use mathlib.Core.List.{List, [], _∷_, _++_}
 use mathlib.Core.Path.{_≡_, refl, sym, ap, _∙_}
 use native.Mathlib.Omega.{arith}
 use lib.Dec.{eqb}
+use Rattle.vector.specs.Vector.{merging}
 use Rattle.choice.specs.Choice.{pick}
 use Rattle.choice.specs.laws.ChoiceLaws.{pick-on}
 use Rattle.site.specs.declared.Outcome.{Outcome}
@@ -31,14 +32,17 @@ Decided : Outcome → Site → List Written → Type 0
 Decided o s H = (s .outcome ≡ o) × (H ≡ [])
 
 decided-steady : (own n : ℕ) (o : Outcome) → (o ≡ Outcome·.None → ⊥) → Steady own n (Decided o)
-unfolding Decided withUp withCoordinator withCodes hear
+unfolding Decided withUp withCoordinator withCodes hear merging
 decided-steady own n o some =
     record {
       up = λ b s H q. q;
       role = λ b s H q. q;
-      prepares = λ s H e q. absurd (some (sym (q .0) ∙ active-undecided s e));
-      joins = λ k s H e q. absurd (some (sym (q .0) ∙ e));
-      decides = λ k s H e q. absurd (some (sym (q .0) ∙ e));
+      writes =
+          record {
+            prepares = λ s H e q. absurd (some (sym (q .0) ∙ active-undecided s e));
+            joins = λ k s H e q. absurd (some (sym (q .0) ∙ e));
+            decides = λ k s H e q. absurd (some (sym (q .0) ∙ e));
+          };
       hears = λ said s H e q. q;
       forgets = λ s H q. q;
     }

@@ -6,9 +6,9 @@ use mathlib.Core.Path.{_≡_, refl, ap, _∙_}
 use native.Mathlib.Omega.{arith}
 use Rattle.site.specs.Records.{Written}
 use Rattle.world.specs.declared.World.{World}
-use Rattle.world.specs.Worlds.{withSite, withRows}
+use Rattle.world.specs.Worlds.{withSite, withRows, withNews}
 use Rattle.world.specs.Valid.{validWorld}
-use Rattle.play.specs.Calls.{Call, refuse, enterSilent, enterRow}
+use Rattle.play.specs.Calls.{Call, refuse, putBack, enterSilent, enterRow}
 use Rattle.play.specs.Run.{Ask, run, callOf, afterCall}
 use Rattle.safety.specs.laws.View.{Seen, as-refused, as-silent, as-row}
 use Rattle.safety.specs.laws.ViewLaws.{view}
@@ -32,7 +32,7 @@ run-keeps w store (a ∷ asks) H inv =
 
 -- calls keep the sizes
 call-terms : (w : World) (store : List ℕ) (r : Call) → Seen w store r → termsOf (r .world) ≡ termsOf w
-unfolding refuse enterSilent enterRow withSite withRows
+unfolding refuse enterSilent enterRow withSite withRows putBack withNews
 call-terms w store r (as-refused number place other) = refl
 call-terms w store r (as-silent next own m granted none) = refl
 call-terms w store r (as-row next own m granted some room) = refl

@@ -7,6 +7,7 @@ use native.Mathlib.Omega.{arith}
 use lib.Dec.{eqb}
 use lib.ListN.{length, length-set}
 use borrow.Author.Tests.{eqb-true}
+use Rattle.vector.specs.Vector.{merging}
 use Rattle.choice.specs.laws.ChoiceLaws.{pick-ind}
 use Rattle.vector.specs.laws.VectorLaws.{merge-length}
 use Rattle.site.specs.declared.Group.{Group}
@@ -19,8 +20,8 @@ use Rattle.site.specs.declared.AbortQuorum.{AbortQuorum}
 use Rattle.rules.specs.Rules.{Move, hear, keptVector}
 use Rattle.world.specs.declared.World.{World}
 use Rattle.world.specs.Sizes.{sizesNumber}
-use Rattle.world.specs.Worlds.{zeroWorld, freshSites, freshWorld, siteOf, withSite, withRows}
-use Rattle.play.specs.Calls.{Call, refuse, enterSilent, enterRow}
+use Rattle.world.specs.Worlds.{zeroWorld, freshSites, freshWorld, siteOf, withSite, withRows, withNews}
+use Rattle.play.specs.Calls.{Call, refuse, putBack, enterSilent, enterRow}
 use Rattle.play.specs.Commands.{oneCommand}
 use Rattle.safety.specs.Claims.{Shaped}
 use Rattle.safety.specs.laws.Fresh.{newWorld, fresh-length, fresh-blank}
@@ -65,14 +66,17 @@ kept-length Group·.Commit v l = l
 kept-length Group·.Abort v l = l
 
 pub long-steady : (own n : ℕ) → Steady own n (λ s H. Long s)
-unfolding withUp withCoordinator withPrepared withGroup withOutcome withCodes withOwn writePrepare joinGroup writeOutcome hear
+unfolding withUp withCoordinator withPrepared withGroup withOutcome withCodes withOwn writePrepare joinGroup writeOutcome hear merging
 long-steady own n =
     record {
       up = λ b s H q. record { codes = q .codes; joined = q .joined };
       role = λ b s H q. record { codes = q .codes; joined = q .joined };
-      prepares = λ s H e q. record { codes = simp length-set (q .codes); joined = q .joined };
-      joins = λ k s H e q. record { codes = simp length-set (q .codes); joined = simp length-set (q .codes) };
-      decides = λ k s H e q. record { codes = simp length-set (q .codes); joined = q .joined };
+      writes =
+          record {
+            prepares = λ s H e q. record { codes = simp length-set (q .codes); joined = q .joined };
+            joins = λ k s H e q. record { codes = simp length-set (q .codes); joined = simp length-set (q .codes) };
+            decides = λ k s H e q. record { codes = simp length-set (q .codes); joined = q .joined };
+          };
       hears = λ said s H e q. record { codes = merge-length n own said (s .codes) ∙ q .codes; joined = q .joined };
       forgets = λ s H q. record { codes = simp length-set (kept-length (s .group) (s .joined) (q .joined)); joined = q .joined };
     }
@@ -90,14 +94,21 @@ long-moved w store own m shaped g =
     turn-keeps w store own m (λ s H. Long s) (long-steady own (w .n)) (g .turn)
     (long-of w shaped own (omega (arith, valid-sized w (g .valid))))
 
+-- the world with that site put back
+moved-shaped :
+    (w : World) (store : List ℕ) (own : ℕ) (m : Move) → Shaped w → Granted w store own m → Shaped (putBack own m w)
+unfolding putBack withNews siteOf
+moved-shaped w store own m shaped g =
+    let put : Shaped (withSite own (m .step .site) w) =
+    shaped-put w own (m .step .site) shaped (omega (arith, valid-sized w (g .valid))) (long-moved w store own m shaped g) in
+    record { sites = put .sites; codes = put .codes; joined = put .joined }
+
 seen-shaped : (w : World) (store : List ℕ) (c : Call) → Shaped w → Seen w store c → Shaped (c .world)
 unfolding refuse enterSilent enterRow withRows siteOf
 seen-shaped w store c shaped (as-refused number place h) = shaped
-seen-shaped w store c shaped (as-silent next own m g z) =
-    shaped-put w own (m .step .site) shaped (omega (arith, valid-sized w (g .valid))) (long-moved w store own m shaped g)
+seen-shaped w store c shaped (as-silent next own m g z) = moved-shaped w store own m shaped g
 seen-shaped w store c shaped (as-row next own m g z l) =
-    let put : Shaped (withSite own (m .step .site) w) =
-    shaped-put w own (m .step .site) shaped (omega (arith, valid-sized w (g .valid))) (long-moved w store own m shaped g) in
+    let put : Shaped (putBack own m w) = moved-shaped w store own m shaped g in
     record { sites = put .sites; codes = put .codes; joined = put .joined }
 
 -- a call, refused or not, leaves the shape

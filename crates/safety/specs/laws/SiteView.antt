@@ -8,9 +8,9 @@ use Rattle.site.specs.declared.Site.{Site}
 use Rattle.site.specs.Records.{Written}
 use Rattle.rules.specs.Rules.{Move}
 use Rattle.world.specs.declared.World.{World}
-use Rattle.world.specs.Worlds.{siteOf, withSite, withRows}
+use Rattle.world.specs.Worlds.{siteOf, withSite, withRows, withNews}
 use Rattle.world.specs.laws.WorldLaws.{valid-sized, put-ind}
-use Rattle.play.specs.Calls.{Call, refuse, enterSilent, enterRow}
+use Rattle.play.specs.Calls.{Call, refuse, putBack, enterSilent, enterRow}
 use Rattle.safety.specs.Claims.{writtenAt, Shaped}
 use Rattle.safety.specs.laws.View.{Turn, Granted, Seen, as-refused, as-silent, as-row}
 use Rattle.safety.specs.laws.Unchanging.{turn-only, other-site}
@@ -31,7 +31,7 @@ moved-at w store own j m shaped g =
     (λ other. stays (other-site w own j (m .step .site) other) (λ code. turn-only w store own m (g .turn) j code other))
 
 pub seen-at : (w : World) (store : List ℕ) (j : ℕ) (c : Call) → Shaped w → Seen w store c → AtSite w store j (siteOf (c .world) j) (c .records)
-unfolding refuse enterSilent enterRow siteOf withRows writtenAt
+unfolding refuse enterSilent enterRow putBack siteOf withRows withNews writtenAt
 seen-at w store j c shaped (as-refused number place other) = stays refl (λ code. refl)
 seen-at w store j c shaped (as-silent next own m g none) = moved-at w store own j m shaped g
 seen-at w store j c shaped (as-row next own m g some room) = moved-at w store own j m shaped g

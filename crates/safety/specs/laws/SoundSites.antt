@@ -8,11 +8,10 @@ use lib.Dec.{ltb, leb, eqb}
 use lib.ListN.{length, getD, set, getD-replicate}
 use lib.Seq.{getD-set-same}
 use borrow.Author.Tests.{ltb-true, ltb-false, le-leb, leb-true, eq-eqb, eqb-true}
-use Rattle.choice.specs.Choice.{pick, both}
-use Rattle.choice.specs.laws.ChoiceLaws.{pick-ind, pick-on, both-on, both-first, both-second, set-ind}
-use Rattle.vector.specs.Codes.{level}
-use Rattle.vector.specs.Vector.{merge, mergeEntry, validEntry, validEntries, validVector}
-use Rattle.vector.specs.laws.VectorLaws.{merge-at, merge-else}
+use Rattle.choice.specs.Choice.{both}
+use Rattle.choice.specs.laws.ChoiceLaws.{pick-ind, both-on, both-first, both-second, set-ind}
+use Rattle.vector.specs.Vector.{rises, mergeEntry, merge, merging, validEntry, validEntries, validVector}
+use Rattle.vector.specs.laws.VectorLaws.{merge-at, merge-else, entry-own}
 use Rattle.row.specs.Rows.{codesKnown}
 use Rattle.site.specs.declared.Group.{Group}
 use Rattle.site.specs.declared.Group.the-variants as Group·
@@ -99,9 +98,7 @@ set-sound n own code v below room h s =
 
 merged-small : (own i held said : ℕ) → held ≤ 5 → said ≤ 5 → mergeEntry own i held said ≤ 5
 unfolding mergeEntry
-merged-small own i held said h k =
-    pick-ind (λ x. x ≤ 5) (eqb i own) held (pick (ltb (level held) (level said)) said held) (λ _. h)
-    (λ _. pick-ind (λ x. x ≤ 5) (ltb (level held) (level said)) said held (λ _. k) (λ _. h))
+merged-small own i held said h k = pick-ind (λ x. x ≤ 5) (rises own i held said) said held (λ _. k) (λ _. h)
 
 merge-sound :
     (n own : ℕ) (said v : List ℕ) → n ≤ length v → codesKnown n said ≡ true → SoundVector n v →
@@ -219,18 +216,13 @@ kept-sound Group·.None own n v e = zero-sound n
 kept-sound Group·.Commit own n v e = vector-sound n v (both-first (validVector n v) (eqb (getD v own 0) 2) e)
 kept-sound Group·.Abort own n v e = vector-sound n v (both-first (validVector n v) (eqb (getD v own 0) 3) e)
 
--- the own entry is not merged
-merged-own : (own held said : ℕ) → mergeEntry own own held said ≡ held
-unfolding mergeEntry
-merged-own own held said = pick-on (eqb own own) held (pick (ltb (level held) (level said)) said held) (eq-eqb own own refl)
-
 -- every small step keeps it
 module _ (own n : ℕ) (below : own < n) (most : n ≤ 16) where
   sound-prepares : (s : Site) → stateOf s ≡ State·.Active → SoundSite own n s → SoundSite own n (writePrepare own s)
   unfolding stateOf withPrepared withCodes withOwn writePrepare
   sound-prepares s e q =
       record {
-        long = long-steady own n .prepares s [] e (q .long);
+        long = long-steady own n .writes .prepares s [] e (q .long);
         codes = set-sound n own 1 (s .codes) below (omega arith) (omega arith) (q .codes);
         own-code =
             getD-set-same (s .codes) own 1 0 (omega arith) ∙ prepared-code (s .outcome) (s .group) (s .prepared) e;
@@ -245,7 +237,7 @@ module _ (own n : ℕ) (below : own < n) (most : n ≤ 16) where
       let v : SoundVector n (set (s .codes) own c) = set-sound n own c (s .codes) below (omega arith) (group-small k) (q .codes) in
       let own-is : getD (set (s .codes) own c) own 0 ≡ c = getD-set-same (s .codes) own c 0 (omega arith) in
       record {
-        long = long-steady own n .joins k s [] e (q .long);
+        long = long-steady own n .writes .joins k s [] e (q .long);
         codes = v;
         own-code = own-is ∙ group-code k (s .outcome) (s .prepared) e;
         group = joined-valid k own n (set (s .codes) own c) v own-is;
@@ -256,7 +248,7 @@ module _ (own n : ℕ) (below : own < n) (most : n ≤ 16) where
   sound-decides k s e q =
       let c : ℕ = recordCode (outcomeRecord k) in
       record {
-        long = long-steady own n .decides k s [] e (q .long);
+        long = long-steady own n .writes .decides k s [] e (q .long);
         codes = set-sound n own c (s .codes) below (omega arith) (outcome-small k) (q .codes);
         own-code = getD-set-same (s .codes) own c 0 (omega arith) ∙ outcome-code k (s .group) (s .prepared);
         group = q .group;
@@ -264,14 +256,14 @@ module _ (own n : ℕ) (below : own < n) (most : n ≤ 16) where
 
   sound-hears :
       (said : List ℕ) (s : Site) → codesKnown n said ≡ true → SoundSite own n s → SoundSite own n (hear own n said s)
-  unfolding stateOf withCodes hear
+  unfolding stateOf withCodes hear merging
   sound-hears said s known q =
       record {
         long = long-steady own n .hears said s [] known (q .long);
         codes = merge-sound n own said (s .codes) (omega arith) known (q .codes);
         own-code =
             merge-at n own said (s .codes) own below (omega arith)
-            ∙ merged-own own (getD (s .codes) own 0) (getD said own 0) ∙ q .own-code;
+            ∙ entry-own own (getD (s .codes) own 0) (getD said own 0) ∙ q .own-code;
         group = q .group;
       }
 
@@ -299,9 +291,12 @@ module _ (own n : ℕ) (below : own < n) (most : n ≤ 16) where
             record { long = long-steady own n .up b s [] (q .long); codes = q .codes; own-code = q .own-code; group = q .group };
         role = λ b s H q.
             record { long = long-steady own n .role b s [] (q .long); codes = q .codes; own-code = q .own-code; group = q .group };
-        prepares = λ s H e q. sound-prepares s e q;
-        joins = λ k s H e q. sound-joins k s e q;
-        decides = λ k s H e q. sound-decides k s e q;
+        writes =
+            record {
+              prepares = λ s H e q. sound-prepares s e q;
+              joins = λ k s H e q. sound-joins k s e q;
+              decides = λ k s H e q. sound-decides k s e q;
+            };
         hears = λ said s H e q. sound-hears said s e q;
         forgets = λ s H q. sound-forgets s q;
       }

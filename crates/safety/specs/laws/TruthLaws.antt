@@ -4,12 +4,9 @@ use mathlib.Core.Bool.{Bool, true, false}
 use mathlib.Core.List.{List, _++_}
 use mathlib.Core.Path.{_≡_, refl, _∙_}
 use native.Mathlib.Omega.{arith}
-use lib.Dec.{ltb, eqb}
 use lib.ListN.{getD, set, length-set, getD-replicate, length-replicate}
-use Rattle.choice.specs.Choice.{pick}
 use Rattle.choice.specs.laws.ChoiceLaws.{pick-ind, set-ind}
-use Rattle.vector.specs.Codes.{level}
-use Rattle.vector.specs.Vector.{weigh, mergeEntry, merge}
+use Rattle.vector.specs.Vector.{weigh, rises, mergeEntry, merge}
 use Rattle.vector.specs.laws.VectorLaws.{merge-length, merge-at}
 use Rattle.row.specs.declared.Row.{Row}
 use Rattle.site.specs.declared.Group.{Group}
@@ -90,8 +87,7 @@ entry-merge : (H : List Written) (own i held said : ℕ) → TrueCode H i held �
     TrueCode H i (mergeEntry own i held said)
 unfolding mergeEntry
 entry-merge H own i held said true-held true-said =
-    pick-ind (TrueCode H i) (eqb i own) held (pick (ltb (level held) (level said)) said held) (λ e. true-held)
-    (λ e. pick-ind (TrueCode H i) (ltb (level held) (level said)) said held (λ e′. true-said) (λ e′. true-held))
+    pick-ind (TrueCode H i) (rises own i held said) said held (λ _. true-said) (λ _. true-held)
 
 pub vector-merge : {n : ℕ} {H : List Written} (own : ℕ) (said v : List ℕ) → n ≤ 16 →
     ((i : ℕ) → i < n → TrueCode H i (getD said i 0)) → TrueVector n H v → TrueVector n H (merge n own said v)

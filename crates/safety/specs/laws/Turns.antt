@@ -54,6 +54,7 @@ use Rattle.rules.specs.Rules.{
   joinAbortIn,
   after,
   answer,
+  bringing,
   deliver,
   keptVector,
   crash,
@@ -64,10 +65,8 @@ use Rattle.world.specs.declared.World.{World}
 use Rattle.world.specs.Worlds.{siteOf, isWilling}
 use Rattle.safety.specs.laws.View.{Turn, by-start, by-timeout, by-deliver, by-crash, by-recover}
 
--- the small steps of site `own` among n, on a site and the records written so far
-pub record Steady (own n : ℕ) (Q : Site → List Written → Type 0) : Type 0 where
-  pub up : (b : Bool) (s : Site) (H : List Written) → Q s H → Q (withUp b s) H
-  pub role : (b : Bool) (s : Site) (H : List Written) → Q s H → Q (withCoordinator b s) H
+-- the small steps by which site `own` writes a record, on a site and the records written so far
+pub record Writes (own : ℕ) (Q : Site → List Written → Type 0) : Type 0 where
   pub prepares :
       (s : Site) (H : List Written) → stateOf s ≡ State·.Active → Q s H →
       Q (writePrepare own s) (H ++ (wrote own prepareRecord ∷ []))
@@ -77,6 +76,12 @@ pub record Steady (own n : ℕ) (Q : Site → List Written → Type 0) : Type 0 
   pub decides :
       (k : Kind) (s : Site) (H : List Written) → s .outcome ≡ Outcome·.None → Q s H →
       Q (writeOutcome k own s) (H ++ (wrote own (outcomeRecord k) ∷ []))
+
+-- all small steps of site `own` among n
+pub record Steady (own n : ℕ) (Q : Site → List Written → Type 0) : Type 0 where
+  pub up : (b : Bool) (s : Site) (H : List Written) → Q s H → Q (withUp b s) H
+  pub role : (b : Bool) (s : Site) (H : List Written) → Q s H → Q (withCoordinator b s) H
+  pub writes : Writes own Q
   pub hears : (said : List ℕ) (s : Site) (H : List Written) → codesKnown n said ≡ true → Q s H → Q (hear own n said s) H
   pub forgets :
       (s : Site) (H : List Written) → Q s H →
@@ -106,89 +111,42 @@ is-active State·.AbortGroup e = absurd (false≢true e)
 is-active State·.Committed e = absurd (false≢true e)
 is-active State·.Aborted e = absurd (false≢true e)
 
-module _ (own n : ℕ) (Q : Site → List Written → Type 0) (steady : Steady own n Q) where
-  -- of a move, and of a site with records
-  Moved : Move → Type 0
-  Moved m = Q (m .step .site) (m .records)
+-- a claim of a move, and of a site with records
+unfoldable pub Moved : (Site → List Written → Type 0) → Move → Type 0
+Moved Q m = Q (m .step .site) (m .records)
 
-  Held : Noted → Type 0
-  Held m = Q (m .site) (m .records)
+unfoldable pub Held : (Site → List Written → Type 0) → Noted → Type 0
+Held Q m = Q (m .site) (m .records)
 
+-- what holds through every write of a site holds through what it does after a merge
+module _ (own n : ℕ) (Q : Site → List Written → Type 0) (writes : Writes own Q) where
   more : (s : Site) (H : List Written) → Q s H → Q s (H ++ [])
   more s H q = rw append-nil q
 
-  keeps-takeOver : (kind : ℕ) (s : Site) → Q s [] → Moved (takeOver kind own n s)
-  unfolding Moved takeOver commanding
-  keeps-takeOver kind s q = steady .role true s [] q
-
-  keeps-chooseGroup : (s : Site) → s .outcome ≡ Outcome·.None → Q s [] → Moved (chooseGroup own n s)
-  unfolding Moved chooseGroup commanding
-  keeps-chooseGroup s o q =
-      pick-ind Moved (either (eqb (count n (s .codes) 1) n) (ltb 0 (count n (s .codes) 2)))
-      (commanding 3 own n (joinGroup commit own s) (wrote own (groupRecord commit) ∷ []))
-      (commanding 4 own n (joinGroup abort own s) (wrote own (groupRecord abort) ∷ []))
-      (λ _. steady .joins commit s [] o q) (λ _. steady .joins abort s [] o q)
-
-  keeps-decideCommit : (c : CommitQuorum) (s : Site) → s .outcome ≡ Outcome·.None → Q s [] → Moved (decideCommit own n c s)
-  unfolding Moved decideCommit commanding
-  keeps-decideCommit c s o q =
-      pick-ind Moved (commitReached c n (s .codes))
-      (commanding 6 own n (writeOutcome commit own s) (wrote own (outcomeRecord commit) ∷ []))
-      (commanding 3 own n s [])
-      (λ _. steady .decides commit s [] o q) (λ _. q)
-
-  keeps-decideAbort : (a : AbortQuorum) (s : Site) → s .outcome ≡ Outcome·.None → Q s [] → Moved (decideAbort own n a s)
-  unfolding Moved decideAbort commanding
-  keeps-decideAbort a s o q =
-      pick-ind Moved (abortReached a n (s .codes))
-      (commanding 6 own n (writeOutcome abort own s) (wrote own (outcomeRecord abort) ∷ []))
-      (commanding 4 own n s [])
-      (λ _. steady .decides abort s [] o q) (λ _. q)
-
-  keeps-timeoutIn :
-      (st : State) (c : CommitQuorum) (a : AbortQuorum) (s : Site) → stateOf s ≡ st → Q s [] → Moved (timeoutIn st own n c a s)
-  unfolding Moved timeoutIn silent isTerminated
-  keeps-timeoutIn State·.Active c a s e q = steady .decides abort s [] (active-undecided s e) q
-  keeps-timeoutIn State·.Prepared c a s e q =
-      pick-ind Moved (s .coordinator) (chooseGroup own n s) (takeOver 1 own n s)
-      (λ _. keeps-chooseGroup s (undecided s State·.Prepared e refl) q) (λ _. keeps-takeOver 1 s q)
-  keeps-timeoutIn State·.CommitGroup c a s e q =
-      pick-ind Moved (s .coordinator) (decideCommit own n c s) (takeOver 3 own n s)
-      (λ _. keeps-decideCommit c s (undecided s State·.CommitGroup e refl) q) (λ _. keeps-takeOver 3 s q)
-  keeps-timeoutIn State·.AbortGroup c a s e q =
-      pick-ind Moved (s .coordinator) (decideAbort own n a s) (takeOver 4 own n s)
-      (λ _. keeps-decideAbort a s (undecided s State·.AbortGroup e refl) q) (λ _. keeps-takeOver 4 s q)
-  keeps-timeoutIn State·.Committed c a s e q = keeps-takeOver 6 s q
-  keeps-timeoutIn State·.Aborted c a s e q = keeps-takeOver 6 s q
-
-  keeps-timeout : (c : CommitQuorum) (a : AbortQuorum) (s : Site) → Q s [] → Moved (timeout own n c a s)
-  unfolding timeout
-  keeps-timeout c a s q = keeps-timeoutIn (stateOf s) c a s refl q
-
-  keeps-adopt : (s : Site) → Q s [] → Held (adopt own n s)
+  pub keeps-adopt : (s : Site) → Q s [] → Held Q (adopt own n s)
   unfolding Held adopt adoptCode
   keeps-adopt s q =
-      pick-ind Held (isTerminated (stateOf s)) (record { site = s; records = [] })
+      pick-ind (Held Q) (isTerminated (stateOf s)) (record { site = s; records = [] })
       (adoptCode (lowestOutcome n (s .codes)) own s) (λ _. q) λ going.
-      pick-ind Held (eqb (lowestOutcome n (s .codes)) 4)
+      pick-ind (Held Q) (eqb (lowestOutcome n (s .codes)) 4)
       (record { site = writeOutcome commit own s; records = wrote own (outcomeRecord commit) ∷ [] })
       (pick (eqb (lowestOutcome n (s .codes)) 5)
       (record { site = writeOutcome abort own s; records = wrote own (outcomeRecord abort) ∷ [] })
       (record { site = s; records = [] }))
-      (λ _. steady .decides commit s [] (undecided s (stateOf s) refl going) q) λ _.
-      pick-ind Held (eqb (lowestOutcome n (s .codes)) 5)
+      (λ _. writes .decides commit s [] (undecided s (stateOf s) refl going) q) λ _.
+      pick-ind (Held Q) (eqb (lowestOutcome n (s .codes)) 5)
       (record { site = writeOutcome abort own s; records = wrote own (outcomeRecord abort) ∷ [] })
       (record { site = s; records = [] })
-      (λ _. steady .decides abort s [] (undecided s (stateOf s) refl going) q) (λ _. q)
+      (λ _. writes .decides abort s [] (undecided s (stateOf s) refl going) q) (λ _. q)
 
   keeps-voteIn :
       (st : State) (willing : Bool) (s : Site) (H : List Written) → stateOf s ≡ st → Q s H →
-      Held (after H (voteIn st own willing s))
+      Held Q (after H (voteIn st own willing s))
   unfolding Held after voteIn
   keeps-voteIn State·.Active willing s H e q =
-      pick-ind (λ m. Held (after H m)) willing (record { site = writePrepare own s; records = wrote own prepareRecord ∷ [] })
+      pick-ind (λ m. Held Q (after H m)) willing (record { site = writePrepare own s; records = wrote own prepareRecord ∷ [] })
       (record { site = writeOutcome abort own s; records = wrote own (outcomeRecord abort) ∷ [] })
-      (λ _. steady .prepares s H e q) (λ _. steady .decides abort s H (active-undecided s e) q)
+      (λ _. writes .prepares s H e q) (λ _. writes .decides abort s H (active-undecided s e) q)
   keeps-voteIn State·.Prepared willing s H e q = more s H q
   keeps-voteIn State·.CommitGroup willing s H e q = more s H q
   keeps-voteIn State·.AbortGroup willing s H e q = more s H q
@@ -196,64 +154,114 @@ module _ (own n : ℕ) (Q : Site → List Written → Type 0) (steady : Steady o
   keeps-voteIn State·.Aborted willing s H e q = more s H q
 
   keeps-joinCommitIn :
-      (st : State) (s : Site) (H : List Written) → stateOf s ≡ st → Q s H → Held (after H (joinCommitIn st own s))
+      (st : State) (s : Site) (H : List Written) → stateOf s ≡ st → Q s H → Held Q (after H (joinCommitIn st own s))
   unfolding Held after joinCommitIn isTerminated
   keeps-joinCommitIn State·.Active s H e q = more s H q
-  keeps-joinCommitIn State·.Prepared s H e q = steady .joins commit s H (undecided s State·.Prepared e refl) q
+  keeps-joinCommitIn State·.Prepared s H e q = writes .joins commit s H (undecided s State·.Prepared e refl) q
   keeps-joinCommitIn State·.CommitGroup s H e q = more s H q
   keeps-joinCommitIn State·.AbortGroup s H e q = more s H q
   keeps-joinCommitIn State·.Committed s H e q = more s H q
   keeps-joinCommitIn State·.Aborted s H e q = more s H q
 
   keeps-joinAbortIn :
-      (st : State) (s : Site) (H : List Written) → stateOf s ≡ st → Q s H → Held (after H (joinAbortIn st own s))
+      (st : State) (s : Site) (H : List Written) → stateOf s ≡ st → Q s H → Held Q (after H (joinAbortIn st own s))
   unfolding Held after joinAbortIn isTerminated
-  keeps-joinAbortIn State·.Active s H e q = steady .joins abort s H (active-undecided s e) q
-  keeps-joinAbortIn State·.Prepared s H e q = steady .joins abort s H (undecided s State·.Prepared e refl) q
+  keeps-joinAbortIn State·.Active s H e q = writes .joins abort s H (active-undecided s e) q
+  keeps-joinAbortIn State·.Prepared s H e q = writes .joins abort s H (undecided s State·.Prepared e refl) q
   keeps-joinAbortIn State·.CommitGroup s H e q = more s H q
   keeps-joinAbortIn State·.AbortGroup s H e q = more s H q
   keeps-joinAbortIn State·.Committed s H e q = more s H q
   keeps-joinAbortIn State·.Aborted s H e q = more s H q
 
-  keeps-answer : (kind sender : ℕ) (willing : Bool) (m : Noted) → Held m → Moved (answer kind own sender willing m)
+  pub keeps-answer : (kind sender : ℕ) (willing : Bool) (m : Noted) → Held Q m → Moved Q (answer kind own sender willing m)
   unfolding Held Moved answer replying silent
   keeps-answer kind sender willing m q =
       let vote : Noted = after (m .records) (voteIn (stateOf (m .site)) own willing (m .site)) in
       let joinC : Noted = after (m .records) (joinCommitIn (stateOf (m .site)) own (m .site)) in
       let joinA : Noted = after (m .records) (joinAbortIn (stateOf (m .site)) own (m .site)) in
-      pick-ind Moved (eqb kind 1) (replying 2 own sender vote)
+      pick-ind (Moved Q) (eqb kind 1) (replying 2 own sender vote)
       (pick (eqb kind 3) (replying 5 own sender joinC) (pick (eqb kind 4) (replying 5 own sender joinA)
       (pick (eqb kind 6) (replying 7 own sender m) (silent (m .site) (m .records)))))
       (λ _. keeps-voteIn (stateOf (m .site)) willing (m .site) (m .records) refl q) λ _.
-      pick-ind Moved (eqb kind 3) (replying 5 own sender joinC) (pick (eqb kind 4) (replying 5 own sender joinA)
+      pick-ind (Moved Q) (eqb kind 3) (replying 5 own sender joinC) (pick (eqb kind 4) (replying 5 own sender joinA)
       (pick (eqb kind 6) (replying 7 own sender m) (silent (m .site) (m .records))))
       (λ _. keeps-joinCommitIn (stateOf (m .site)) (m .site) (m .records) refl q) λ _.
-      pick-ind Moved (eqb kind 4) (replying 5 own sender joinA)
+      pick-ind (Moved Q) (eqb kind 4) (replying 5 own sender joinA)
       (pick (eqb kind 6) (replying 7 own sender m) (silent (m .site) (m .records)))
       (λ _. keeps-joinAbortIn (stateOf (m .site)) (m .site) (m .records) refl q) λ _.
-      pick-ind Moved (eqb kind 6) (replying 7 own sender m) (silent (m .site) (m .records)) (λ _. q) (λ _. q)
+      pick-ind (Moved Q) (eqb kind 6) (replying 7 own sender m) (silent (m .site) (m .records)) (λ _. q) (λ _. q)
+
+-- what holds through every small step holds through every rule
+module _ (own n : ℕ) (Q : Site → List Written → Type 0) (steady : Steady own n Q) where
+  keeps-takeOver : (kind : ℕ) (s : Site) → Q s [] → Moved Q (takeOver kind own n s)
+  unfolding Moved takeOver commanding
+  keeps-takeOver kind s q = steady .role true s [] q
+
+  keeps-chooseGroup : (s : Site) → s .outcome ≡ Outcome·.None → Q s [] → Moved Q (chooseGroup own n s)
+  unfolding Moved chooseGroup commanding
+  keeps-chooseGroup s o q =
+      pick-ind (Moved Q) (either (eqb (count n (s .codes) 1) n) (ltb 0 (count n (s .codes) 2)))
+      (commanding 3 own n (joinGroup commit own s) (wrote own (groupRecord commit) ∷ []))
+      (commanding 4 own n (joinGroup abort own s) (wrote own (groupRecord abort) ∷ []))
+      (λ _. steady .writes .joins commit s [] o q) (λ _. steady .writes .joins abort s [] o q)
+
+  keeps-decideCommit : (c : CommitQuorum) (s : Site) → s .outcome ≡ Outcome·.None → Q s [] → Moved Q (decideCommit own n c s)
+  unfolding Moved decideCommit commanding
+  keeps-decideCommit c s o q =
+      pick-ind (Moved Q) (commitReached c n (s .codes))
+      (commanding 6 own n (writeOutcome commit own s) (wrote own (outcomeRecord commit) ∷ []))
+      (commanding 3 own n s [])
+      (λ _. steady .writes .decides commit s [] o q) (λ _. q)
+
+  keeps-decideAbort : (a : AbortQuorum) (s : Site) → s .outcome ≡ Outcome·.None → Q s [] → Moved Q (decideAbort own n a s)
+  unfolding Moved decideAbort commanding
+  keeps-decideAbort a s o q =
+      pick-ind (Moved Q) (abortReached a n (s .codes))
+      (commanding 6 own n (writeOutcome abort own s) (wrote own (outcomeRecord abort) ∷ []))
+      (commanding 4 own n s [])
+      (λ _. steady .writes .decides abort s [] o q) (λ _. q)
+
+  keeps-timeoutIn :
+      (st : State) (c : CommitQuorum) (a : AbortQuorum) (s : Site) → stateOf s ≡ st → Q s [] → Moved Q (timeoutIn st own n c a s)
+  unfolding Moved timeoutIn silent isTerminated
+  keeps-timeoutIn State·.Active c a s e q = steady .writes .decides abort s [] (active-undecided s e) q
+  keeps-timeoutIn State·.Prepared c a s e q =
+      pick-ind (Moved Q) (s .coordinator) (chooseGroup own n s) (takeOver 1 own n s)
+      (λ _. keeps-chooseGroup s (undecided s State·.Prepared e refl) q) (λ _. keeps-takeOver 1 s q)
+  keeps-timeoutIn State·.CommitGroup c a s e q =
+      pick-ind (Moved Q) (s .coordinator) (decideCommit own n c s) (takeOver 3 own n s)
+      (λ _. keeps-decideCommit c s (undecided s State·.CommitGroup e refl) q) (λ _. keeps-takeOver 3 s q)
+  keeps-timeoutIn State·.AbortGroup c a s e q =
+      pick-ind (Moved Q) (s .coordinator) (decideAbort own n a s) (takeOver 4 own n s)
+      (λ _. keeps-decideAbort a s (undecided s State·.AbortGroup e refl) q) (λ _. keeps-takeOver 4 s q)
+  keeps-timeoutIn State·.Committed c a s e q = keeps-takeOver 6 s q
+  keeps-timeoutIn State·.Aborted c a s e q = keeps-takeOver 6 s q
+
+  keeps-timeout : (c : CommitQuorum) (a : AbortQuorum) (s : Site) → Q s [] → Moved Q (timeout own n c a s)
+  unfolding timeout
+  keeps-timeout c a s q = keeps-timeoutIn (stateOf s) c a s refl q
 
   keeps-deliver :
-      (willing : Bool) (row : Row) (s : Site) → rowKnown n row ≡ true → Q s [] → Moved (deliver own n willing row s)
-  unfolding deliver rowKnown
+      (willing : Bool) (row : Row) (s : Site) → rowKnown n row ≡ true → Q s [] → Moved Q (deliver own n willing row s)
+  unfolding Moved Held deliver bringing rowKnown
   keeps-deliver willing row s known q =
-      keeps-answer (row .kind) (row .sender) willing (adopt own n (hear own n (row .codes) s))
-      (keeps-adopt (hear own n (row .codes) s)
+      keeps-answer own n Q (steady .writes) (row .kind) (row .sender) willing (adopt own n (hear own n (row .codes) s))
+      (keeps-adopt own n Q (steady .writes) (hear own n (row .codes) s)
       (steady .hears (row .codes) s []
       (both-second (ltb (row .sender) n) (codesKnown n (row .codes))
       (both-second (both (leb 1 (row .kind)) (leb (row .kind) 7)) (both (ltb (row .sender) n) (codesKnown n (row .codes))) known))
       q))
 
-  keeps-crash : (s : Site) → Q s [] → Moved (crash own s)
+  keeps-crash : (s : Site) → Q s [] → Moved Q (crash own s)
   unfolding Moved crash silent
   keeps-crash s q = steady .up false _ [] (steady .role false _ [] (steady .forgets s [] q))
 
-  keeps-recover : (s : Site) → Q s [] → Moved (recover own s)
+  keeps-recover : (s : Site) → Q s [] → Moved Q (recover own s)
   unfolding Moved recover restart silent
   keeps-recover s q =
-      pick-ind Moved (isActive (stateOf s)) (restart own s) (silent (withUp true s) [])
+      pick-ind (Moved Q) (isActive (stateOf s)) (restart own s) (silent (withUp true s) [])
       (λ e. steady .up true _ _ (steady .role false _ _
-      (steady .decides abort s [] (active-undecided s (is-active (stateOf s) e)) q)))
+      (steady .writes .decides abort s [] (active-undecided s (is-active (stateOf s) e)) q)))
       (λ _. steady .up true s [] q)
 
 -- START is at site 0
@@ -265,8 +273,8 @@ keeps-start n Q steady willing s e q =
     pick-ind (λ m. Q (m .step .site) (m .records)) willing
     (commanding 1 0 n (withCoordinator true (writePrepare 0 s)) (wrote 0 prepareRecord ∷ []))
     (commanding 6 0 n (withCoordinator true (writeOutcome abort 0 s)) (wrote 0 (outcomeRecord abort) ∷ []))
-    (λ _. steady .role true (writePrepare 0 s) (wrote 0 prepareRecord ∷ []) (steady .prepares s [] e q))
-    (λ _. steady .role true (writeOutcome abort 0 s) (wrote 0 (outcomeRecord abort) ∷ []) (steady .decides abort s [] (active-undecided s e) q))
+    (λ _. steady .role true (writePrepare 0 s) (wrote 0 prepareRecord ∷ []) (steady .writes .prepares s [] e q))
+    (λ _. steady .role true (writeOutcome abort 0 s) (wrote 0 (outcomeRecord abort) ∷ []) (steady .writes .decides abort s [] (active-undecided s e) q))
 
 -- the rule, whichever it is
 pub turn-keeps :

@@ -1,4 +1,4 @@
--- Theorem 3: a refused call changes nothing, an accepted one only its site, its row and its records.
+-- Theorem 3: a refused call changes nothing, an accepted one only its site, its row, its news and its records.
 use Prim.Native.Nat.{ℕ}
 use mathlib.Core.Bool.{false}
 use mathlib.Core.List.{List, [], _∷_, _++_}
@@ -12,8 +12,8 @@ use Rattle.site.specs.Fields.{blankSite}
 use Rattle.site.specs.Records.{Written, wrote, LogRecord}
 use Rattle.rules.specs.Rules.{Move}
 use Rattle.world.specs.declared.World.{World}
-use Rattle.world.specs.Worlds.{siteOf, withSite, withRows}
-use Rattle.play.specs.Calls.{Call, refuse, enterSilent, enterRow}
+use Rattle.world.specs.Worlds.{siteOf, withSite, withRows, withNews}
+use Rattle.play.specs.Calls.{Call, refuse, putBack, enterSilent, enterRow}
 use Rattle.play.specs.Commands.{oneCommand}
 use Rattle.safety.specs.Claims.{writtenAt, Unchanged, RefusedChangesNothing, Kept, AcceptedKeepsTheRest}
 use Rattle.safety.specs.laws.View.{Turn, Seen, as-refused, as-silent, as-row}
@@ -21,8 +21,8 @@ use Rattle.safety.specs.laws.ViewLaws.{view}
 use Rattle.safety.specs.laws.Turns.{Steady, turn-keeps}
 
 seen-refused : (w : World) (store : List ℕ) (c : Call) → Seen w store c → (c .number ≡ 0 → ⊥) → Unchanged w store c
-unfolding refuse enterSilent enterRow
-seen-refused w store c (as-refused number place h) r = record { world-same = refl; store-same = refl; no-record = refl }
+unfolding refuse enterSilent enterRow putBack withNews
+seen-refused w store c (as-refused number place h) r = record { world-same = refl; store-same = refl; no-record = refl; no-news = refl }
 seen-refused w store c (as-silent next own m g e) r = absurd (r refl)
 seen-refused w store c (as-row next own m g e l) r = absurd (r refl)
 
@@ -45,9 +45,12 @@ only-steady own n =
     record {
       up = λ b s H q. q;
       role = λ b s H q. q;
-      prepares = λ s H e q. only-more own H _ q;
-      joins = λ k s H e q. only-more own H _ q;
-      decides = λ k s H e q. only-more own H _ q;
+      writes =
+          record {
+            prepares = λ s H e q. only-more own H _ q;
+            joins = λ k s H e q. only-more own H _ q;
+            decides = λ k s H e q. only-more own H _ q;
+          };
       hears = λ said s H e q. q;
       forgets = λ s H q. q;
     }
@@ -65,7 +68,7 @@ unfolding siteOf withSite
 other-site w own j s h = getD-set-other (w .sites) own j s (blankSite false) h
 
 seen-accepted : (w : World) (store : List ℕ) (c : Call) → Seen w store c → c .number ≡ 0 → Kept w store c
-unfolding refuse enterSilent enterRow withRows withSite siteOf
+unfolding refuse enterSilent enterRow withRows withSite siteOf putBack withNews
 seen-accepted w store c (as-refused number place h) e = absurd (h e)
 seen-accepted w store c (as-silent next own m g z) e =
     record {
@@ -78,6 +81,7 @@ seen-accepted w store c (as-silent next own m g z) e =
       same-willing = refl;
       rows-grow = omega arith;
       rows-by-one = omega arith;
+      news-added = refl;
       same-length = refl;
       bytes-below = λ b h. refl;
       bytes-beyond = λ b h. refl;
@@ -95,6 +99,7 @@ seen-accepted w store c (as-row next own m g z l) e =
       same-willing = refl;
       rows-grow = omega arith;
       rows-by-one = omega arith;
+      news-added = refl;
       same-length = putRow-length store (w .rows) (m .step .row);
       bytes-below = putRow-below store (w .rows) (m .step .row);
       bytes-beyond = putRow-beyond store (w .rows) (m .step .row);

@@ -6,9 +6,9 @@ use mathlib.Core.Path.{_≡_}
 use native.Mathlib.Omega.{arith}
 use Rattle.rules.specs.Rules.{Move}
 use Rattle.world.specs.declared.World.{World}
-use Rattle.world.specs.Worlds.{siteOf, withSite, withRows}
+use Rattle.world.specs.Worlds.{siteOf, withSite, withRows, withNews}
 use Rattle.world.specs.Valid.{validSite, validWorld}
-use Rattle.play.specs.Calls.{Call, refuse, enterSilent, enterRow}
+use Rattle.play.specs.Calls.{Call, refuse, putBack, enterSilent, enterRow}
 use Rattle.play.specs.Commands.{oneCommand}
 use Rattle.safety.specs.Claims.{Shaped, ValidStaysValid}
 use Rattle.safety.specs.laws.View.{Granted, Seen, as-refused, as-silent, as-row}
@@ -29,16 +29,16 @@ moved-valid w store own m shaped g =
     (turn-keeps w store own m (λ s H. SoundSite own (w .n) s) (sound-steady own (w .n) below most) (g .turn)
     (site-sound own (w .n) (siteOf w own) (long-of w shaped own (omega arith)) (valid-parts w (g .valid) .sites own below)))
 
--- the world with that site put back
+-- the world with that site put back, and its news added
 moved-parts :
-    (w : World) (store : List ℕ) (own : ℕ) (m : Move) → Shaped w → Granted w store own m →
-    ValidParts (withSite own (m .step .site) w)
-unfolding withSite
+    (w : World) (store : List ℕ) (own : ℕ) (m : Move) → Shaped w → Granted w store own m → ValidParts (putBack own m w)
+unfolding putBack withSite withNews siteOf
 moved-parts w store own m shaped g =
     let old : ValidParts w = valid-parts w (g .valid) in
     record {
       sizes = old .sizes;
       rows = old .rows;
+      news = g .news;
       sites = λ k h.
           put-ind (λ s. validSite k (w .n) s ≡ true) w own (m .step .site) k (omega (arith, valid-sized w (g .valid)))
           (λ e. rw e (moved-valid w store own m shaped g)) (λ _. old .sites k h);
@@ -46,14 +46,14 @@ moved-parts w store own m shaped g =
 
 seen-valid :
     (w : World) (store : List ℕ) (c : Call) → Shaped w → Seen w store c → c .number ≡ 0 → validWorld (c .world) ≡ true
-unfolding refuse enterSilent enterRow withRows siteOf
+unfolding refuse enterSilent enterRow withRows siteOf putBack withNews
 seen-valid w store c shaped (as-refused number place h) e = absurd (h e)
 seen-valid w store c shaped (as-silent next own m g z) e =
-    valid-whole (withSite own (m .step .site) w) (moved-parts w store own m shaped g)
+    valid-whole (putBack own m w) (moved-parts w store own m shaped g)
 seen-valid w store c shaped (as-row next own m g z l) e =
-    let p : ValidParts (withSite own (m .step .site) w) = moved-parts w store own m shaped g in
-    valid-whole (withRows (w .rows + 1) (withSite own (m .step .site) w))
-    (record { sizes = p .sizes; rows = omega arith; sites = p .sites })
+    let p : ValidParts (putBack own m w) = moved-parts w store own m shaped g in
+    valid-whole (withRows (w .rows + 1) (putBack own m w))
+    (record { sizes = p .sizes; rows = omega arith; news = p .news; sites = p .sites })
 
 pub valid-stays-valid : ValidStaysValid
 valid-stays-valid w store list at shaped valid e =

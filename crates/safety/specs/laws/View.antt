@@ -1,5 +1,5 @@
 -- A view of one command: it is a refusal, or the move of one site by one of the five rules, put into world and store.
-use Prim.Native.Nat.{ℕ, _≤_, _<_}
+use Prim.Native.Nat.{ℕ, _+_, _≤_, _<_}
 use mathlib.Core.Bool.{true, false}
 use mathlib.Core.List.{List}
 use mathlib.Core.Path.{_≡_}
@@ -8,7 +8,7 @@ use Rattle.row.specs.Rows.{getRow, rowKnown}
 use Rattle.site.specs.State.{stateOf, isActive}
 use Rattle.rules.specs.Rules.{Move, start, timeout, deliver, crash, recover}
 use Rattle.world.specs.declared.World.{World}
-use Rattle.world.specs.Sizes.{maxRows, storeBytes}
+use Rattle.world.specs.Sizes.{maxRows, maxNews, storeBytes}
 use Rattle.world.specs.Worlds.{siteOf, isWilling}
 use Rattle.world.specs.Valid.{validWorld}
 use Rattle.play.specs.Calls.{Call, refuse, enterSilent, enterRow}
@@ -31,6 +31,7 @@ pub record Granted (w : World) (store : List ℕ) (own : ℕ) (m : Move) : Type 
   pub room : storeBytes ≤ length store
   pub below : own < w .n
   pub turn : Turn w store own m
+  pub news : w .news + m .step .news ≤ maxNews
 
 pub data Seen (w : World) (store : List ℕ) : Call → Type 0 where
   as-refused : (number place : ℕ) → (number ≡ 0 → ⊥) → Seen w store (refuse number w store place)

@@ -6,7 +6,7 @@ use mathlib.Core.Path.{_≡_}
 use native.Mathlib.Omega.{arith}
 use lib.Dec.{ltb, leb, eqb}
 use lib.ListN.{length, getD}
-use borrow.Author.Tests.{ltb-true, ltb-false, eqb-true, eqb-false}
+use borrow.Author.Tests.{ltb-true, ltb-false, leb-true, eqb-true, eqb-false}
 use Rattle.choice.specs.Choice.{pick}
 use Rattle.choice.specs.laws.ChoiceLaws.{pick-ind}
 use Rattle.bits.specs.Bits.{hasBit}
@@ -19,10 +19,10 @@ use Rattle.command.specs.declared.Target.{Target}
 use Rattle.command.specs.declared.Reading.{Reading}
 use Rattle.command.specs.Commands.{found, refused, target, delivery, readTarget, readDelivery, readByte, readCommand}
 use Rattle.world.specs.declared.World.{World}
-use Rattle.world.specs.Sizes.{maxRows, storeBytes}
+use Rattle.world.specs.Sizes.{maxRows, maxNews, storeBytes}
 use Rattle.world.specs.Worlds.{siteOf, isWilling}
 use Rattle.world.specs.Valid.{validWorld}
-use Rattle.play.specs.Calls.{refuse, enterSilent, enterRow, enter}
+use Rattle.play.specs.Calls.{Call, refuse, enterSilent, enterRow, withinNews, enter}
 use Rattle.play.specs.Commands.{
   startCall,
   timeoutCall,
@@ -41,16 +41,27 @@ use Rattle.world.specs.laws.WorldLaws.{valid-sized}
 
 -- a call past 16 and 17
 module _ (w : World) (store : List ℕ) (valid : validWorld w ≡ true) (room : storeBytes ≤ length store) (at : ℕ) where
-  -- a move that a rule allows
+  -- a move that a rule allows, if its news fits
+  seen-within :
+      (own : ℕ) (m : Move) (r : Call) → own < w .n → Turn w store own m → (Granted w store own m → Seen w store r) →
+      Seen w store (withinNews w store at m r)
+  unfolding withinNews
+  seen-within own m r below turn taken =
+      pick-ind (Seen w store) (leb (w .news + m .step .news) maxNews) r (refuse 17 w store at)
+      (λ few. taken (record { valid = valid; room = room; below = below; turn = turn; news = leb-true _ maxNews few }))
+      (λ _. as-refused 17 at (omega arith))
+
   seen-enter : (next own : ℕ) (m : Move) → own < w .n → Turn w store own m → Seen w store (enter w store at next own m)
   unfolding enter
   seen-enter next own m below turn =
-      let g : Granted w store own m = record { valid = valid; room = room; below = below; turn = turn } in
-      pick-ind (Seen w store) (eqb (m .step .row .kind) 0) (enterSilent w store next own m)
-      (pick (ltb (w .rows) maxRows) (enterRow w store next own m) (refuse 15 w store at))
-      (λ e. as-silent next own m g (eqb-true (m .step .row .kind) 0 e))
-      (λ e. pick-ind (Seen w store) (ltb (w .rows) maxRows) (enterRow w store next own m) (refuse 15 w store at)
-      (λ l. as-row next own m g (eqb-false (m .step .row .kind) 0 e) (ltb-true (w .rows) maxRows l))
+      pick-ind (Seen w store) (eqb (m .step .row .kind) 0) (withinNews w store at m (enterSilent w store next own m))
+      (pick (ltb (w .rows) maxRows) (withinNews w store at m (enterRow w store next own m)) (refuse 15 w store at))
+      (λ e. seen-within own m (enterSilent w store next own m) below turn
+      (λ g. as-silent next own m g (eqb-true (m .step .row .kind) 0 e)))
+      (λ e. pick-ind (Seen w store) (ltb (w .rows) maxRows) (withinNews w store at m (enterRow w store next own m))
+      (refuse 15 w store at)
+      (λ l. seen-within own m (enterRow w store next own m) below turn
+      (λ g. as-row next own m g (eqb-false (m .step .row .kind) 0 e) (ltb-true (w .rows) maxRows l)))
       (λ _. as-refused 15 at (omega arith)))
 
   seen-start : (next : ℕ) → Seen w store (startCall w store at next)

@@ -1,15 +1,14 @@
--- A decimal number is right: its digits read back give the number, it has no leading nought, and at most six digits.
-use Prim.Native.Nat.{ℕ, _+_, _*_, _-_, _/_, _%_, _<_, _≤_}
-use Prim.Native.String.{String}
+-- A decimal number is right: its digits read back give the number, it has no leading nought, and no more digits than it needs.
+use Prim.Native.Nat.{ℕ, zero, suc, _+_, _*_, _-_, _/_, _%_, _^_, _<_, _≤_}
 use mathlib.Core.List.{List, [], _∷_, _++_}
 use mathlib.Core.Path.{_≡_, refl, sym, ap, _∙_}
 use native.Mathlib.Nat.{div-div-eq-div-mul, div-add-mod, div-eq-of-lt}
 use native.Mathlib.Omega.{arith}
 use lib.Dec.{leb}
-use lib.ListN.{length, length-append, getD}
+use lib.ListN.{length, length-append}
 use borrow.Author.Tests.{le-leb, lt-leb, leb-true, leb-false}
 use Rattle.choice.specs.laws.Cases.{by-test}
-use Rattle.text.specs.Text.{text, digitAt, decimal, named}
+use Rattle.text.specs.Text.{digitAt, decimal}
 use Rattle.text.specs.Claims.{readFrom, DecimalReads, NoLeadingNought}
 
 read-join : (v : ℕ) (s t : List ℕ) → readFrom v (s ++ t) ≡ readFrom (readFrom v s) t
@@ -18,7 +17,7 @@ read-join v [] t = refl
 read-join v (d ∷ s) t = read-join (10 * v + (d - 48)) s t
 
 -- a number reaches a unit or lies below it
-by-unit {ℓ} : {P : Type ℓ} (unit x : ℕ) → (unit ≤ x → P) → (x < unit → P) → P
+pub by-unit {ℓ} : {P : Type ℓ} (unit x : ℕ) → (unit ≤ x → P) → (x < unit → P) → P
 by-unit unit x f g = by-test (leb unit x) (λ e. f (leb-true unit x e)) (λ e. g (leb-false unit x e))
 
 shown : (unit x : ℕ) → unit ≤ x → digitAt unit x ≡ (48 + x / unit % 10) ∷ []
@@ -33,11 +32,35 @@ digit-length : (unit x : ℕ) → length (digitAt unit x) ≤ 1
 digit-length unit x =
     by-unit unit x (λ h. rw (shown unit x h) (omega arith)) (λ h. rw (hidden unit x h) (omega arith))
 
-pub decimal-length : (x : ℕ) → length (decimal x) ≤ 6
+decimal-length : (x : ℕ) → length (decimal x) ≤ 6
 unfolding decimal
 decimal-length x =
     simp length-append
     (omega (arith, digit-length 100000 x, digit-length 10000 x, digit-length 1000 x, digit-length 100 x, digit-length 10 x))
+
+no-digit : (unit x : ℕ) → x < unit → length (digitAt unit x) ≡ 0
+no-digit unit x h = rw (hidden unit x h)
+
+-- a number below ten to the k has at most k digits; nought has one
+pub decimal-below : (k x : ℕ) → 1 ≤ k → x < 10 ^ k → length (decimal x) ≤ k
+unfolding decimal
+decimal-below zero x low h = absurd (omega arith)
+decimal-below (suc zero) x low h =
+    simp length-append
+    (omega (arith, no-digit 100000 x (omega arith), no-digit 10000 x (omega arith), no-digit 1000 x (omega arith), no-digit 100 x (omega arith), no-digit 10 x (omega arith)))
+decimal-below (suc (suc zero)) x low h =
+    simp length-append
+    (omega (arith, no-digit 100000 x (omega arith), no-digit 10000 x (omega arith), no-digit 1000 x (omega arith), no-digit 100 x (omega arith), digit-length 10 x))
+decimal-below (suc (suc (suc zero))) x low h =
+    simp length-append
+    (omega (arith, no-digit 100000 x (omega arith), no-digit 10000 x (omega arith), no-digit 1000 x (omega arith), digit-length 100 x, digit-length 10 x))
+decimal-below (suc (suc (suc (suc zero)))) x low h =
+    simp length-append
+    (omega (arith, no-digit 100000 x (omega arith), no-digit 10000 x (omega arith), digit-length 1000 x, digit-length 100 x, digit-length 10 x))
+decimal-below (suc (suc (suc (suc (suc zero))))) x low h =
+    simp length-append
+    (omega (arith, no-digit 100000 x (omega arith), digit-length 10000 x, digit-length 1000 x, digit-length 100 x, digit-length 10 x))
+decimal-below (suc (suc (suc (suc (suc (suc k)))))) x low h = omega (arith, decimal-length x)
 
 -- the digit at a unit, after the number above it
 digit-reads : (unit x : ℕ) → readFrom (x / (unit * 10)) (digitAt unit x) ≡ x / unit

@@ -2,7 +2,7 @@
 use Prim.Native.Nat.{ℕ, _<_}
 use mathlib.Core.Bool.{Bool, true, false}
 use mathlib.Core.List.{List}
-use mathlib.Core.Path.{_≡_, refl, sym, _∙_}
+use mathlib.Core.Path.{_≡_, refl, ap, sym, _∙_}
 use lib.Dec.{leb, eqb}
 use lib.ListN.{getD}
 use borrow.Author.Tests.{eq-eqb}
@@ -16,7 +16,7 @@ use Rattle.site.specs.declared.Site.{Site}
 use Rattle.site.specs.declared.State.{State}
 use Rattle.site.specs.State.{stateOf, codeOf}
 use Rattle.world.specs.declared.World.{World}
-use Rattle.world.specs.Sizes.{maxRows, sizesNumber}
+use Rattle.world.specs.Sizes.{maxRows, maxNews, sizesNumber}
 use Rattle.world.specs.Valid.{validGroup, validSite, validSites, validWorld}
 
 -- the own entry of a group record's vector: 0 with no group
@@ -67,13 +67,14 @@ validSite-by own s st code limits held p q r n l =
     (sym (both-joined (validVector n (s .codes)) (eqb (getD (s .codes) own 0) (codeOf (stateOf s)))
     (validGroup (s .group) own n (s .joined))))
 
--- sizes and row count as one test, before the sites
+-- sizes, row count and news as one test, before the sites
 pub validWorld-by :
     (w : World) →
     validWorld w
-    ≡ both (both (eqb (sizesNumber (w .n) (w .commit) (w .abort) (w .willing)) 0) (leb (w .rows) maxRows))
+    ≡ both (both (eqb (sizesNumber (w .n) (w .commit) (w .abort) (w .willing)) 0) (both (leb (w .rows) maxRows) (leb (w .news) maxNews)))
     (validSites (w .n) w)
 unfolding validWorld
 validWorld-by w =
-    sym (both-joined (eqb (sizesNumber (w .n) (w .commit) (w .abort) (w .willing)) 0) (leb (w .rows) maxRows)
-    (validSites (w .n) w))
+    let fit : Bool = eqb (sizesNumber (w .n) (w .commit) (w .abort) (w .willing)) 0 in
+    sym (both-joined fit (both (leb (w .rows) maxRows) (leb (w .news) maxNews)) (validSites (w .n) w)
+    ∙ ap (both fit) (both-joined (leb (w .rows) maxRows) (leb (w .news) maxNews) (validSites (w .n) w)))

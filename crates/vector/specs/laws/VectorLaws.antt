@@ -1,18 +1,18 @@
--- Laws of merge, entry by entry.
+-- Laws of merge, entry by entry, and of the lowest outcome.
 use Prim.Native.Nat.{ℕ, zero, suc, _≤_, _<_}
-use mathlib.Core.Bool.{true, false}
+use mathlib.Core.Bool.{true, false, false≢true}
 use mathlib.Core.List.{List}
 use mathlib.Core.Path.{_≡_, refl, ap, sym, _∙_}
 use native.Mathlib.Omega.{arith}
-use lib.Dec.{ltb}
+use lib.Dec.{ltb, eqb}
 use lib.ListN.{length, getD, set, length-set}
 use lib.Seq.{getD-set-other, ext-getD}
 use borrow.Author.Tests.{eq-eqb, ne-eqb, ltb-true, ltb-false}
 use Rattle.choice.specs.Choice.{pick}
-use Rattle.choice.specs.laws.ChoiceLaws.{set-ind}
+use Rattle.choice.specs.laws.ChoiceLaws.{pick-ind, pick-on, pick-off, set-ind}
 use Rattle.choice.specs.laws.Cases.{by-test, by-equal}
 use Rattle.vector.specs.Codes.{level, isOutcome}
-use Rattle.vector.specs.Vector.{merge, mergeEntry, firstOutcome, lowestOutcome}
+use Rattle.vector.specs.Vector.{rises, mergeEntry, merge, firstOutcome, lowestOutcome}
 
 pub merge-length : (n own : ℕ) (said v : List ℕ) → length (merge n own said v) ≡ length v
 unfolding merge
@@ -39,16 +39,43 @@ merge-at (suc k) own said v i h room =
     (λ e. rw (e, merge-else k own said v k (omega arith)))
     (λ e. merge-at k own said v i (omega arith) (omega arith))
 
--- the receiver's own entry stays
-entry-own : (own held said : ℕ) → mergeEntry own own held said ≡ held
+-- the receiver's own entry does not rise
+pub rises-own : (own held said : ℕ) → rises own own held said ≡ false
+unfolding rises
+rises-own own held said = simp (eq-eqb own own refl)
+
+-- any other does with the higher level
+pub rises-other : (own k held said : ℕ) → (k ≡ own → ⊥) → rises own k held said ≡ ltb (level held) (level said)
+unfolding rises
+rises-other own k held said h = simp (ne-eqb k own h)
+
+-- an entry that rises has another code then, and any other the same
+
+rises-higher : (own k held said : ℕ) → rises own k held said ≡ true → level held < level said
+unfolding rises
+rises-higher own k held said =
+    pick-ind (λ t. t ≡ true → level held < level said) (eqb k own) false (ltb (level held) (level said))
+    (λ _ e. absurd (false≢true e)) (λ _ e. ltb-true (level held) (level said) e)
+
+pub entry-changed : (own k held said : ℕ) → rises own k held said ≡ true → held ≡ mergeEntry own k held said → ⊥
 unfolding mergeEntry
-entry-own own held said = simp (eq-eqb own own refl)
+entry-changed own k held said e same =
+    omega (arith, rises-higher own k held said e, ap level (same ∙ pick-on (rises own k held said) said held e))
+
+pub entry-kept : (own k held said : ℕ) → rises own k held said ≡ false → held ≡ mergeEntry own k held said
+unfolding mergeEntry
+entry-kept own k held said e = sym (pick-off (rises own k held said) said held e)
+
+-- the receiver's own entry stays
+pub entry-own : (own held said : ℕ) → mergeEntry own own held said ≡ held
+unfolding mergeEntry
+entry-own own held said = rw (rises-own own held said)
 
 -- any other has the code of the higher level
 entry-other :
     (own k held said : ℕ) → (k ≡ own → ⊥) → mergeEntry own k held said ≡ pick (ltb (level held) (level said)) said held
 unfolding mergeEntry
-entry-other own k held said h = simp (ne-eqb k own h)
+entry-other own k held said h = rw (rises-other own k held said h)
 
 -- one entry more, where none below n is the receiver's
 pub merge-on :

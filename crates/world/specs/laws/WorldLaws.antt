@@ -1,6 +1,6 @@
 -- What a world that passes 17 is known to be, read off the tests.
 use Prim.Native.Nat.{ℕ, zero, suc, _≤_, _<_}
-use mathlib.Core.Bool.{true, false}
+use mathlib.Core.Bool.{Bool, true, false}
 use mathlib.Core.Path.{_≡_, refl}
 use native.Mathlib.Omega.{arith}
 use lib.Dec.{leb, eqb}
@@ -11,16 +11,17 @@ use Rattle.choice.specs.laws.ChoiceLaws.{both-on, both-first, both-second, set-
 use Rattle.site.specs.declared.Site.{Site}
 use Rattle.site.specs.Fields.{blankSite}
 use Rattle.world.specs.declared.World.{World}
-use Rattle.world.specs.Sizes.{maxRows, sizesNumber}
+use Rattle.world.specs.Sizes.{maxRows, maxNews, sizesNumber}
 use Rattle.world.specs.laws.SizesLaws.{Sized, sized}
 use Rattle.world.specs.Worlds.{siteOf, withSite}
 use Rattle.world.specs.Valid.{validSite, validSites, validWorld}
 use Rattle.choice.specs.laws.Cases.{by-equal}
 
--- the three parts of 17
+-- the four parts of 17
 pub record ValidParts (w : World) : Type 0 where
   pub sizes : sizesNumber (w .n) (w .commit) (w .abort) (w .willing) ≡ 0
   pub rows : w .rows ≤ maxRows
+  pub news : w .news ≤ maxNews
   pub sites : (k : ℕ) → k < w .n → validSite k (w .n) (siteOf w k) ≡ true
 
 -- the sites below k, one by one
@@ -40,25 +41,29 @@ sites-all (suc k) w h =
 pub valid-parts : (w : World) → validWorld w ≡ true → ValidParts w
 unfolding validWorld
 valid-parts w e =
-    let rest : both (leb (w .rows) maxRows) (validSites (w .n) w) ≡ true =
-    both-second (eqb (sizesNumber (w .n) (w .commit) (w .abort) (w .willing)) 0)
-    (both (leb (w .rows) maxRows) (validSites (w .n) w)) e in
+    let fit : Bool = eqb (sizesNumber (w .n) (w .commit) (w .abort) (w .willing)) 0 in
+    let few : Bool = leb (w .rows) maxRows in
+    let low : Bool = leb (w .news) maxNews in
+    let rest : both few (both low (validSites (w .n) w)) ≡ true = both-second fit (both few (both low (validSites (w .n) w))) e in
+    let last : both low (validSites (w .n) w) ≡ true = both-second few (both low (validSites (w .n) w)) rest in
     record {
       sizes =
           eqb-true (sizesNumber (w .n) (w .commit) (w .abort) (w .willing)) 0
-          (both-first (eqb (sizesNumber (w .n) (w .commit) (w .abort) (w .willing)) 0)
-          (both (leb (w .rows) maxRows) (validSites (w .n) w)) e);
-      rows = leb-true (w .rows) maxRows (both-first (leb (w .rows) maxRows) (validSites (w .n) w) rest);
-      sites = sites-each (w .n) w (both-second (leb (w .rows) maxRows) (validSites (w .n) w) rest);
+          (both-first fit (both few (both low (validSites (w .n) w))) e);
+      rows = leb-true (w .rows) maxRows (both-first few (both low (validSites (w .n) w)) rest);
+      news = leb-true (w .news) maxNews (both-first low (validSites (w .n) w) last);
+      sites = sites-each (w .n) w (both-second low (validSites (w .n) w) last);
     }
 
 pub valid-whole : (w : World) → ValidParts w → validWorld w ≡ true
 unfolding validWorld
 valid-whole w p =
     both-on (eqb (sizesNumber (w .n) (w .commit) (w .abort) (w .willing)) 0)
-    (both (leb (w .rows) maxRows) (validSites (w .n) w)) (eq-eqb _ 0 (p .sizes))
-    (both-on (leb (w .rows) maxRows) (validSites (w .n) w) (le-leb (w .rows) maxRows (p .rows))
-    (sites-all (w .n) w (p .sites)))
+    (both (leb (w .rows) maxRows) (both (leb (w .news) maxNews) (validSites (w .n) w))) (eq-eqb _ 0 (p .sizes))
+    (both-on (leb (w .rows) maxRows) (both (leb (w .news) maxNews) (validSites (w .n) w))
+    (le-leb (w .rows) maxRows (p .rows))
+    (both-on (leb (w .news) maxNews) (validSites (w .n) w) (le-leb (w .news) maxNews (p .news))
+    (sites-all (w .n) w (p .sites))))
 
 -- the sizes of a world that passes 17
 pub valid-sized : (w : World) → validWorld w ≡ true → Sized (w .n) (w .commit) (w .abort) (w .willing)

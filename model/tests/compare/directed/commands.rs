@@ -6,7 +6,7 @@ use model::layout::encode;
 use model::row::ROW_BYTES;
 use model::sizes::{everyone, MAX_LIST};
 use model::world::MAX_ROWS;
-use model::{Ask, Command, Log, Role, Side, Sizes, State, World};
+use model::{one_command, Ask, Command, Log, Role, Side, Sizes, State, World};
 
 use super::shared::{base, deliver, Done};
 use crate::common::{group, vector};
@@ -17,10 +17,10 @@ use Command::{Crash, Recover, Start, Timeout};
 type Edit = fn(&mut World);
 
 /// One command on the base world, or on one near it.
-struct Case {
-    name: &'static str,
+pub struct Case {
+    pub name: &'static str,
     number: u8,
-    world: World,
+    pub world: World,
     store: Vec<u8>,
     list: Vec<u8>,
     at: usize,
@@ -39,7 +39,7 @@ impl Case {
         }
     }
 
-    fn new(name: &'static str, number: u8, command: Command) -> Case {
+    pub fn new(name: &'static str, number: u8, command: Command) -> Case {
         Case::bytes(name, number, &command.bytes())
     }
 
@@ -48,23 +48,37 @@ impl Case {
         self
     }
 
-    fn world(mut self, edit: Edit) -> Case {
+    pub fn world(mut self, edit: Edit) -> Case {
         edit(&mut self.world);
         self
     }
 
     /// Changes a byte of row 5, the join that goes to all but site 0.
-    fn row(mut self, at: usize, byte: u8) -> Case {
+    pub fn row(mut self, at: usize, byte: u8) -> Case {
         self.store[5 * ROW_BYTES + at] = byte;
         self
     }
 
     /// All 1,024 rows are there.
-    fn full(self) -> Case {
+    pub fn full(self) -> Case {
         self.world(|w| w.row_count = MAX_ROWS)
     }
 
-    fn check(&self, both: &mut Comparer) -> Done {
+    /// The news is so much.
+    pub fn news(mut self, news: usize) -> Case {
+        self.world.news = news;
+        self
+    }
+
+    /// The news after the command, by the model.
+    pub fn news_after(&self) -> usize {
+        let (mut world, mut store) = (self.world, self.store.clone());
+        let ask = Ask::new(&self.list, self.at);
+        let _ = one_command(&mut world, &mut store, ask);
+        world.news
+    }
+
+    pub fn check(&self, both: &mut Comparer) -> Done {
         let world = encode(&self.world);
         let ask = Ask::new(&self.list, self.at);
         let given = both.command(&world, &self.store, ask, RESULT_BYTES)?;
@@ -73,7 +87,7 @@ impl Case {
 }
 
 /// Makes site 0 as it is before START, but for what it knows of the others.
-fn not_started(w: &mut World) {
+pub fn not_started(w: &mut World) {
     let site = &mut w.sites[0];
     site.role = Role::Subordinate;
     site.log = Log::EMPTY;

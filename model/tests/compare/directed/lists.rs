@@ -27,6 +27,9 @@ fn days() -> Vec<Numbered> {
     cut.extend([2, 0]);
     let full = rows_of_site_0(MAX_ROWS);
     let over = rows_of_site_0(MAX_ROWS + 1);
+    let reply_over = [&full[..], &[deliver(0, 1)]].concat();
+    let down = [Start, Crash(1), deliver(0, 1)];
+    let astray = [Start, deliver(0, 1), deliver(1, 2)];
     vec![
         ("0 day M1", 0, three(7, &[])),
         ("0 day M2", 0, three(7, &[Start])),
@@ -44,6 +47,9 @@ fn days() -> Vec<Numbered> {
         ("7 cut after one operand byte", 7, cut),
         ("0 row 1,023 as the 1,024th", 0, three(7, &full)),
         ("15 row 1,024 as the 1,025th", 15, three(7, &over)),
+        ("15 a refused row's news", 15, three(7, &reply_over)),
+        ("12 a refused row's news", 12, three(7, &down)),
+        ("11 a refused row's news", 11, three(7, &astray)),
     ]
 }
 

@@ -2,11 +2,13 @@
 
 mod commands;
 mod lists;
+mod news;
 mod reports;
 mod shared;
 mod worlds;
 
 pub use commands::commands;
 pub use lists::lists;
+pub use news::news;
 pub use reports::reports;
 pub use worlds::{every_byte, worlds};

@@ -20,6 +20,7 @@ const C: usize = 2;
 const A: usize = 4;
 const WILLING: usize = 6;
 const ROWS: usize = 8;
+const NEWS: usize = 10;
 
 /// Places at a site.
 const UP: usize = 0;
@@ -62,6 +63,22 @@ const BROKEN: &[(&str, &[Patch])] = &[
     (
         "17 rows over 1,024",
         &[&[(ROWS, 1), (ROWS + 1, 4)], &[(ROWS, 255), (ROWS + 1, 255)]],
+    ),
+    // 491,521, then numbers that are over by one byte alone.
+    (
+        "17 news over 491,520",
+        &[
+            &[(NEWS, 1), (NEWS + 1, 0x80), (NEWS + 2, 7)],
+            &[(NEWS, 0), (NEWS + 1, 0x81), (NEWS + 2, 7)],
+            &[(NEWS, 0), (NEWS + 1, 0), (NEWS + 2, 8)],
+            &[(NEWS, 0), (NEWS + 1, 0), (NEWS + 3, 1)],
+            &[
+                (NEWS, 255),
+                (NEWS + 1, 255),
+                (NEWS + 2, 255),
+                (NEWS + 3, 255),
+            ],
+        ],
     ),
     (
         "17 code above 5",
@@ -142,6 +159,15 @@ const ODD: &[(&str, Patch)] = &[
     ),
     ("0 quorums as large as can be", &[(C, 4), (A, 4)]),
     ("0 quorums that just meet", &[(C, 2), (A, 4)]),
+    (
+        "0 news of 491,520",
+        &[(NEWS, 0), (NEWS + 1, 0x80), (NEWS + 2, 7)],
+    ),
+    (
+        "0 news of 491,519",
+        &[(NEWS, 255), (NEWS + 1, 0x7f), (NEWS + 2, 7)],
+    ),
+    ("0 no news", &[(NEWS, 0)]),
 ];
 
 /// Places of a site's record and the least value outside the layout.
@@ -174,10 +200,11 @@ fn outside() -> Vec<(&'static str, Vec<u8>)> {
         ("17 layout: length", Vec::new()),
         ("17 layout: length", good[..1].to_vec()),
         ("17 layout: number", patched(&[(0, 0)])),
-        ("17 layout: number", patched(&[(0, 2)])),
+        ("17 layout: number", patched(&[(0, 1)])),
+        ("17 layout: number", patched(&[(0, 3)])),
         ("17 layout: number", patched(&[(0, 255)])),
     ];
-    for at in 10..HEAD_BYTES {
+    for at in 14..HEAD_BYTES {
         all.push(("17 layout: reserved in the head", patched(&[(at, 1)])));
         all.push(("17 layout: reserved in the head", patched(&[(at, 255)])));
     }
@@ -195,6 +222,7 @@ pub fn worlds(both: &mut Comparer) -> Done {
     for (name, patches) in BROKEN {
         for patch in *patches {
             command_and_report(both, name, 17, &patched(patch))?;
+            first_numbers(both, &patched(patch))?;
         }
     }
     for (name, patch) in ODD {

@@ -5,6 +5,7 @@ use Rattle.calls.proofs.command_at.head_at.Statement.{statement}
 use Rattle.calls.proofs.command_at.head_at.Tie as tie
 use Rattle.calls.proofs.command_at.head_at.Reads as reads
 use Rattle.calls.proofs.command_at.head_at.Lts as lts
+use Rattle.decode.proofs.long_at.Reads as long-at-reads
 use Rattle.decode.proofs.word_at.Reads as word-at-reads
 use Rattle.word.proofs.wide.Reads as wide-reads
 
@@ -26,9 +27,12 @@ word-at-requires-3 c κs = search needs
 word-at-requires-4 : tie.Need-word-at-requires-4
 word-at-requires-4 c κs = search needs
 
+long-at-requires : tie.Need-long-at-requires
+long-at-requires c κs = search needs
+
 returns : tie.Need-returns
 unfolding headOf worldAt
-returns c = rw (c .before .before .before .before .wide .ensures .0, c .before .before .before .word-at .ensures, c .before .before .word-at2 .ensures, c .before .word-at3 .ensures, c .word-at4 .ensures)
+returns c = rw (c .before .before .before .before .before .wide .ensures .0, c .before .before .before .before .word-at .ensures, c .before .before .before .word-at2 .ensures, c .before .before .word-at3 .ensures, c .before .word-at4 .ensures, c .long-at .ensures)
 
 pub head-at-spec : {M : Type 1} → statement M
 head-at-spec =
@@ -40,4 +44,5 @@ head-at-spec =
     word-at-requires-2
     word-at-requires-3
     word-at-requires-4
+    long-at-requires
     returns)

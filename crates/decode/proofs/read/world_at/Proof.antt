@@ -6,6 +6,7 @@ use Rattle.decode.proofs.read.world_at.Reads as reads
 use Rattle.decode.proofs.read.world_at.Lts as lts
 use Rattle.decode.proofs.read.sites_at.Reads as sites-at-reads
 use Rattle.decode.proofs.read.word_at.Reads as word-at-reads
+use Rattle.decode.proofs.read.long_at.Reads as long-at-reads
 use Rattle.word.proofs.wide.Reads as wide-reads
 
 sites-at-requires : tie.Need-sites-at-requires
@@ -29,9 +30,12 @@ word-at-requires-3 c κs = search needs
 word-at-requires-4 : tie.Need-word-at-requires-4
 word-at-requires-4 c κs = search needs
 
+long-at-requires : tie.Need-long-at-requires
+long-at-requires c κs = search needs
+
 returns : tie.Need-returns
 unfolding worldAt
-returns c = rw (c .word-at4 .ensures, c .before .word-at3 .ensures, c .before .before .word-at2 .ensures, c .before .before .before .word-at .ensures, c .before .before .before .before .wide .ensures .0, c .before .before .before .before .before .before .sites-at .ensures)
+returns c = rw (c .long-at .ensures, c .before .word-at4 .ensures, c .before .before .word-at3 .ensures, c .before .before .before .word-at2 .ensures, c .before .before .before .before .word-at .ensures, c .before .before .before .before .before .wide .ensures .0, c .before .before .before .before .before .before .before .sites-at .ensures)
 
 pub world-at-spec : {M : Type 1} → statement M
 world-at-spec =
@@ -44,4 +48,5 @@ world-at-spec =
     word-at-requires-2
     word-at-requires-3
     word-at-requires-4
+    long-at-requires
     returns)

@@ -16,7 +16,7 @@ use Rattle.world.proofs.World.site.Reads as site-reads
 
 abbrev Inv-loop : tie.InvT-loop
 Inv-loop buffer₀ at world n next₀ k₀ buffer next k =
-    (k ≤ n) × (next ≤ at + 58 * k) × (length buffer ≡ length buffer₀) × Written buffer₀ at (siteLines k world) buffer next
+    (k ≤ n) × (next ≤ at + 54 * k) × (length buffer ≡ length buffer₀) × Written buffer₀ at (siteLines k world) buffer next
 
 abbrev μ-loop : tie.MeasureT-loop
 μ-loop buffer₀ at world n next₀ k₀ buffer next k = n - k

@@ -28,6 +28,13 @@ put-named-requires-2 : tie.Need-put-named-requires-2
 put-named-requires-2 c κs =
     let s : SmallSizes _ = small-sizes _ (c .before .before .before .before .before .before .before .before .before .before .before .before .pre .0) in (omega arith, omega arith)
 
+slice-aggregate-put-named-3 : tie.Need-slice-aggregate-put-named-3
+slice-aggregate-put-named-3 c = search needs
+
+put-named-requires-3 : tie.Need-put-named-requires-3
+put-named-requires-3 c κs =
+    let s : SmallSizes _ = small-sizes _ (c .before .before .before .before .before .before .before .before .before .before .before .before .before .before .before .before .before .pre .0) in (omega arith, omega arith)
+
 put-byte-requires : tie.Need-put-byte-requires
 put-byte-requires c κs = omega arith
 
@@ -37,7 +44,7 @@ same-length c = search needs
 returns : tie.Need-returns
 unfolding text named sizesLine
 returns c = (
-  joined (joined (joined (c .before .before .before .before .before .before .before .before .before .before .before .before .before .before .before .before .put-quorums .ensures .0) (c .before .before .before .before .before .before .before .before .before .before .before .put-named .ensures .0)) (c .before .before .before .before .before .before .put-named2 .ensures .0))
+  joined (joined (joined (joined (c .before .before .before .before .before .before .before .before .before .before .before .before .before .before .before .before .before .before .before .before .before .put-quorums .ensures .0) (c .before .before .before .before .before .before .before .before .before .before .before .before .before .before .before .before .put-named .ensures .0)) (c .before .before .before .before .before .before .before .before .before .before .before .put-named2 .ensures .0)) (c .before .before .before .before .before .before .put-named3 .ensures .0))
       (c .before .before .put-byte .ensures .0),
   omega arith,
 )
@@ -51,6 +58,8 @@ put-sizes-spec =
     put-named-requires
     slice-aggregate-put-named-2
     put-named-requires-2
+    slice-aggregate-put-named-3
+    put-named-requires-3
     put-byte-requires
     same-length
     returns)

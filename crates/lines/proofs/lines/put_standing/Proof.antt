@@ -1,5 +1,6 @@
 use borrow.Author.Needs.{needs}
 use native.Mathlib.Omega.{arith}
+use Rattle.text.specs.laws.DecimalLaws.{decimal-below}
 use Rattle.text.specs.laws.Written.{joined}
 use Rattle.lines.proofs.lines.put_standing.Statement.{statement}
 use Rattle.lines.proofs.lines.put_standing.Tie as tie
@@ -24,7 +25,7 @@ put-role-requires : tie.Need-put-role-requires
 put-role-requires c κs = search needs
 
 put-state-requires : tie.Need-put-state-requires
-put-state-requires c κs = search needs
+put-state-requires c κs = omega (arith, decimal-below 2 (c .before .before .before .before .before .before .before .before .before .before .before .before .before .before .before .args .i) (omega arith) (omega arith))
 
 same-length : tie.Need-same-length
 same-length c = search needs
@@ -33,7 +34,7 @@ returns : tie.Need-returns
 returns c = (
   joined (joined (joined (c .before .before .before .before .before .before .before .before .before .before .before .before .before .before .put-decimal .ensures .0) (c .before .before .before .before .before .before .before .before .before .before .put-up .ensures .0)) (c .before .before .before .before .before .before .put-role .ensures .0))
       (rw (c .before .before .before .before .before .before .before .before .before .before .before .before .before .before .before .before .state .ensures) at (c .before .before .put-state .ensures .0)),
-  omega arith,
+  omega (arith, decimal-below 2 (c .before .before .before .before .before .before .before .before .before .before .before .before .before .before .before .before .before .before .args .i) (omega arith) (omega arith)),
 )
 
 pub put-standing-spec : {M : Type 1} → statement M

@@ -1,11 +1,10 @@
 use Rattle.list.specs.laws.HeaderLaws.{headed}
-use Rattle.world.specs.declared.World.{World}
-use Rattle.world.specs.Worlds.{withSite, withRows}
+use Rattle.world.specs.Worlds.{withSite, withRows, withNews}
 use Rattle.world.specs.laws.PartLaws.{siteOf-within}
 use Rattle.list.specs.laws.LoopLaws.{may-act, changes-on, changes-past, changes-out}
 use Rattle.list.specs.laws.Loop.{Underway, loop-begins, loop-ends}
 use Rattle.list.specs.Play.{playList}
-use Rattle.play.specs.laws.Changes.{headOf, worldOf, changed}
+use Rattle.play.specs.laws.Changes.{headOf, changed}
 use denote.Ref.{now}
 use lib.ListN.{length}
 use mathlib.Core.Path.{_≡_, refl}
@@ -104,7 +103,7 @@ loop-less c =
 
 -- src/whole.rt:21:5
 loop-again : tie.Need-loop-again Inv-loop μ-loop
-unfolding headOf changed withRows withSite
+unfolding headOf changed withNews withRows withSite
 loop-again c = (
   let w = c .before .before .before .before .before .before .before .before .before .before .before .before .loop .world in
       let i = c .before .before .before .before .before .before .before .before .before .before .before .before .loop .inv .0 in

@@ -1,4 +1,5 @@
 use borrow.Author.Needs.{needs}
+use Rattle.vector.specs.Vector.{merging}
 use Rattle.site.specs.Fields.{withCodes}
 use Rattle.rules.specs.Rules.{adopt, deliver, hear}
 use Rattle.participant.proofs.Participant.deliver.Statement.{statement}
@@ -19,10 +20,10 @@ answer-requires : tie.Need-answer-requires
 answer-requires c κs = search needs
 
 returns : tie.Need-returns
-unfolding deliver hear withCodes
+unfolding deliver hear withCodes merging
 returns c =
-    let a = c .before .before .before .before .before .before .args in
-    rw (c .before .adopt .ensures, c .before .before .merge .ensures) at
+    let a = c .before .before .before .before .before .before .before .args in
+    rw (c .before .adopt .ensures, c .before .before .before .merge .ensures) at
     (c .answer .ensures (adopt (a .self .own) (a .self .n) (hear (a .self .own) (a .self .n) (a .row .codes) (a .self .site)) .records))
 
 pub deliver-spec : {M : Type 1} → statement M

@@ -1,5 +1,5 @@
 use borrow.Author.Needs.{needs}
-use Rattle.rules.specs.Rules.{replying, replyRow}
+use Rattle.rules.specs.Rules.{replying, replyRow, bringing}
 use Rattle.rules.proofs.send.replying.Statement.{statement}
 use Rattle.rules.proofs.send.replying.Tie as tie
 use Rattle.rules.proofs.send.replying.Reads as reads
@@ -10,7 +10,7 @@ only-site-requires : tie.Need-only-site-requires
 only-site-requires c κs = search needs
 
 returns : tie.Need-returns
-unfolding replying replyRow
+unfolding replying replyRow bringing
 returns c = simp (c .only-site .ensures)
 
 pub replying-spec : {M : Type 1} → statement M

@@ -4,66 +4,87 @@ use native.Mathlib.Numerals.{add-one}
 use Prim.Native.Nat.{ℕ, _≤_, _-_}
 use mathlib.Core.Path.{_≡_}
 use Rattle.vector.specs.Vector.{merge}
-use Rattle.vector.specs.laws.VectorLaws.{merge-on, merge-put-back}
+use Rattle.vector.specs.laws.VectorLaws.{merge-on}
+use Rattle.vector.specs.laws.News.{roseTo, rose-on, rose-bits, merging-but-own}
 use Rattle.vector.proofs.vector.merge.Statement.{statement}
 use Rattle.vector.proofs.vector.merge.Tie as tie
 use Rattle.vector.proofs.vector.merge.Reads as reads
 use Rattle.vector.proofs.vector.merge.Lts as lts
+use Rattle.vector.proofs.news.rise.Reads as rise-reads
+use Rattle.vector.proofs.news.total.Reads as total-reads
 use Rattle.vector.proofs.vector.higher.Reads as higher-reads
 
 abbrev Inv-loop : tie.InvT-loop
-Inv-loop n own said kept codes₀ k₀ codes k = (k ≤ n) × (codes ≡ merge k n said codes₀)
+Inv-loop n own said kept codes₀ rose₀ k₀ codes rose k = (k ≤ n) × (codes ≡ merge k n said codes₀) × (rose ≡ roseTo k n said codes₀)
 
 abbrev μ-loop : tie.MeasureT-loop
-μ-loop n own said kept codes₀ k₀ codes k = n - k
+μ-loop n own said kept codes₀ rose₀ k₀ codes rose k = n - k
 
--- src/vector.rt:27:16
 array-read-kept : tie.Need-array-read-kept Inv-loop μ-loop
 array-read-kept c = search needs
 
--- src/vector.rt:30:5
 loop-holds : tie.Need-loop-holds Inv-loop μ-loop
-unfolding merge
-loop-holds c = (omega arith, search needs)
+unfolding merge roseTo
+loop-holds c = (omega arith, search needs, search needs)
 
--- src/vector.rt:31:27
+array-read-rise : tie.Need-array-read-rise Inv-loop μ-loop
+array-read-rise c = search needs
+
+array-read-rise-2 : tie.Need-array-read-rise-2 Inv-loop μ-loop
+array-read-rise-2 c = search needs
+
+rise-requires : tie.Need-rise-requires Inv-loop μ-loop
+rise-requires c κs = search needs
+
+array-write-rose : tie.Need-array-write-rose Inv-loop μ-loop
+array-write-rose c = search needs
+
 array-read-higher : tie.Need-array-read-higher Inv-loop μ-loop
 array-read-higher c = search needs
 
--- src/vector.rt:31:37
 array-read-higher-2 : tie.Need-array-read-higher-2 Inv-loop μ-loop
 array-read-higher-2 c = search needs
 
--- src/vector.rt:31:20
 higher-requires : tie.Need-higher-requires Inv-loop μ-loop
 higher-requires c κs = search needs
 
--- src/vector.rt:31:9
 array-write-codes : tie.Need-array-write-codes Inv-loop μ-loop
 array-write-codes c = search needs
 
--- src/vector.rt:32:9
 add-k : tie.Need-add-k Inv-loop μ-loop
 add-k c = search needs
 
--- src/vector.rt:30:5
 loop-less : tie.Need-loop-less Inv-loop μ-loop
 loop-less c = search needs
 
--- src/vector.rt:30:5
 loop-again : tie.Need-loop-again Inv-loop μ-loop
 loop-again c =
-    (omega arith, rw add-one (merge-on (c .before .before .loop .k) (c .before .before .before .args .n) (c .before .before .before .args .t3) (c .before .before .before .args .t4) (c .before .before .loop .codes) (c .higher .result) (c .before .loop-test .taken) (c .before .before .loop .inv .1) (c .higher .ensures)))
+    let l = c .before .before .before .loop in
+    let a = c .before .before .before .before .args in (
+      omega arith,
+      rw add-one (merge-on (l .k) (a .n) (a .t3) (a .t4) (l .codes) (c .higher .result) (c .before .before .loop-test .taken) (l .inv .1) (c .higher .ensures)),
+      rw add-one (rose-on (l .k) (a .n) (a .t3) (a .t4) (l .codes) (l .rose) (c .before .rise .result) (c .before .before .loop-test .taken) (l .inv .1) (l .inv .2) (c .before .rise .ensures .0)),
+    )
 
--- src/vector.rt:34:5
 array-write-codes-2 : tie.Need-array-write-codes-2 Inv-loop μ-loop
 array-write-codes-2 c = search needs
 
--- src/vector.rt:23:1
+array-write-rose-2 : tie.Need-array-write-rose-2 Inv-loop μ-loop
+array-write-rose-2 c = search needs
+
+total-requires : tie.Need-total-requires Inv-loop μ-loop
+total-requires c κs =
+    let l = c .before .loop in
+    let a = c .before .before .args in
+    let e : _≡_ {A = ℕ} (l .k) (a .n) = omega arith in
+    rose-bits (a .n) (a .t3) (a .t4) (l .rose) _ _ (c .before .before .pre .0) (rw e at (l .inv .2)) (search needs) (search needs)
+
 returns : tie.Need-returns Inv-loop μ-loop
 returns c =
-    let e : _≡_ {A = ℕ} (c .before .loop .k) (c .before .before .args .n) = omega arith in
-    rw (c .before .loop .inv .1, e) (merge-put-back (c .before .before .args .n) (c .before .before .args .own) (c .before .before .args .t3) (c .before .before .args .t4) (c .before .before .pre .1) (search needs))
+    let l = c .before .before .loop in
+    let a = c .before .before .before .args in
+    let e : _≡_ {A = ℕ} (l .k) (a .n) = omega arith in
+    merging-but-own (a .n) (a .own) (a .t3) (a .t4) (l .codes) (l .rose) (c .total .result) (c .before .before .before .pre .1) (c .before .before .before .pre .0) (search needs) (rw e at (l .inv .1)) (rw e at (l .inv .2)) (c .total .ensures)
 
 pub merge-spec : {M : Type 1} → statement M
 merge-spec =
@@ -73,6 +94,10 @@ merge-spec =
     μ-loop
     array-read-kept
     loop-holds
+    array-read-rise
+    array-read-rise-2
+    rise-requires
+    array-write-rose
     array-read-higher
     array-read-higher-2
     higher-requires
@@ -81,4 +106,6 @@ merge-spec =
     loop-less
     loop-again
     array-write-codes-2
+    array-write-rose-2
+    total-requires
     returns)

@@ -1,0 +1,183 @@
+//! What calls on a world meet of its news and of the limit.
+
+use crate::command::{Ask, Command};
+use crate::generate::Call;
+use crate::layout::decode;
+use crate::number;
+use crate::play::play_command;
+use crate::row::Row;
+use crate::vector::level;
+use crate::world::{World, MAX_NEWS};
+
+/// Things that a one-command call can meet.
+#[derive(Clone, Copy, Debug, PartialEq, Eq, PartialOrd, Ord)]
+pub enum Meeting {
+    /// The news handed in is over the limit, and nothing else is wrong.
+    OverLimit,
+    /// A delivery is refused for the news that there would be.
+    WouldPass,
+    /// A delivery would pass the limit, but its reply has no room either.
+    NoRoomFirst,
+    /// A delivery brings news and reaches the limit.
+    ReachesLimit,
+    /// A delivery is accepted that finds the limit reached.
+    IdleAtLimit,
+    /// Another command is accepted that finds the limit reached.
+    OtherAtLimit,
+    /// A delivery brings no news.
+    Idle,
+    /// A delivery raises several entries.
+    Several,
+    /// A row tells of a higher level of the receiver than it has.
+    OwnTold,
+    /// A delivery changes the receiver's state, and so its own entry.
+    OwnChanged,
+    /// A row tells another code of the level that is held of a site.
+    SameLevel,
+}
+
+impl Meeting {
+    pub const ALL: [Meeting; 11] = [
+        Meeting::OverLimit,
+        Meeting::WouldPass,
+        Meeting::NoRoomFirst,
+        Meeting::ReachesLimit,
+        Meeting::IdleAtLimit,
+        Meeting::OtherAtLimit,
+        Meeting::Idle,
+        Meeting::Several,
+        Meeting::OwnTold,
+        Meeting::OwnChanged,
+        Meeting::SameLevel,
+    ];
+}
+
+/// Are these the bytes of a world that is refused for its news alone?
+pub fn is_over_limit(world: &[u8]) -> bool {
+    decode(world).is_ok_and(|world| {
+        let newsless = World { news: 0, ..world };
+        world.check().is_err() && newsless.check().is_ok()
+    })
+}
+
+/// All that a call meets that is given this number.
+pub fn meetings(call: &Call, number: u32) -> Vec<Meeting> {
+    let is_over = is_over_limit(&call.world);
+    let found = match number as u8 {
+        number::WORLD if is_over => vec![(Meeting::OverLimit, true)],
+        number::WORLD => vec![(Meeting::WouldPass, would_pass(call))],
+        number::FULL => vec![(Meeting::NoRoomFirst, would_pass(call))],
+        number::NONE => at_accepted(call),
+        _ => Vec::new(),
+    };
+    let met = found.into_iter().filter(|&(_, is_met)| is_met);
+    met.map(|(meeting, _)| meeting).collect()
+}
+
+/// The world handed in, if it passes the check.
+fn good_world(call: &Call) -> Option<World> {
+    let world = decode(&call.world).ok()?;
+    world.check().is_ok().then_some(world)
+}
+
+/// Is it a delivery after which there would be too much news?
+fn would_pass(call: &Call) -> bool {
+    let told = |world: World| Delivery::of(&world, &call.store, call.ask());
+    let delivery = good_world(call).and_then(told);
+    delivery.is_some_and(|delivery| delivery.total() > MAX_NEWS)
+}
+
+/// What an accepted call may have met.
+fn at_accepted(call: &Call) -> Vec<(Meeting, bool)> {
+    let Some(world) = good_world(call) else {
+        return Vec::new();
+    };
+    match Delivery::of(&world, &call.store, call.ask()) {
+        Some(delivery) => delivery.met(call),
+        None => vec![(Meeting::OtherAtLimit, world.news == MAX_NEWS)],
+    }
+}
+
+/// A row in a good world, and the site that it is for.
+pub struct Delivery {
+    world: World,
+    row: Row,
+    me: usize,
+}
+
+impl Delivery {
+    /// The delivery that is asked for, if it is one of a good row to a site
+    /// that is there.
+    pub fn of(world: &World, store: &[u8], ask: Ask) -> Option<Delivery> {
+        let (Command::Deliver { row, site: me }, _) = Command::read(ask).ok()? else {
+            return None;
+        };
+        if row >= world.row_count || me >= world.sizes.n {
+            return None;
+        }
+        let row = Row::read(store, row, world.sizes.n)?;
+        let world = *world;
+        Some(Delivery { world, row, me })
+    }
+
+    /// The receiver.
+    pub fn me(&self) -> usize {
+        self.me
+    }
+
+    /// The news that it brings.
+    pub fn news(&self) -> usize {
+        let mut known = self.world.sites[self.me].vector;
+        known.merge(&self.row.vector, self.me)
+    }
+
+    /// The news that there would be.
+    pub fn total(&self) -> usize {
+        self.world.news + self.news()
+    }
+
+    /// Does the row tell of a higher level of the receiver than it has?
+    pub fn tells_own(&self) -> bool {
+        let (held, told) = self.codes_of(self.me);
+        level(told) > level(held)
+    }
+
+    /// The other sites of which the row tells another code of the level held.
+    pub fn same_levels(&self) -> Vec<usize> {
+        let others = (0..self.world.sizes.n).filter(|&site| site != self.me);
+        let is_same = |&site: &usize| {
+            let (held, told) = self.codes_of(site);
+            held != told && level(held) == level(told)
+        };
+        others.filter(is_same).collect()
+    }
+
+    /// The codes held and told of a site.
+    fn codes_of(&self, site: usize) -> (u8, u8) {
+        let held = &self.world.sites[self.me].vector;
+        (held.codes()[site], self.row.vector.codes()[site])
+    }
+
+    /// What it may have met, if it is accepted.
+    fn met(&self, call: &Call) -> Vec<(Meeting, bool)> {
+        let brings_news = self.news() > 0;
+        let finds_limit = self.world.news == MAX_NEWS;
+        let reaches_limit = self.total() == MAX_NEWS;
+        vec![
+            (Meeting::ReachesLimit, brings_news && reaches_limit),
+            (Meeting::IdleAtLimit, finds_limit),
+            (Meeting::Idle, !brings_news),
+            (Meeting::Several, self.news() > 1),
+            (Meeting::OwnTold, self.tells_own()),
+            (Meeting::OwnChanged, self.changes_state(call)),
+            (Meeting::SameLevel, !self.same_levels().is_empty()),
+        ]
+    }
+
+    fn changes_state(&self, call: &Call) -> bool {
+        let (mut next, mut store) = (self.world, call.store.clone());
+        let played = play_command(&mut next, &mut store, call.ask());
+        let state = |world: &World| world.sites[self.me].state();
+        played.is_ok() && state(&next) != state(&self.world)
+    }
+}
