@@ -7,7 +7,8 @@ use Rattle.text.specs.Text.{text}
 use Rattle.row.specs.declared.Row.{Row}
 use Rattle.row.specs.Rows.{getRow}
 use Rattle.site.specs.Records.{Written}
-use Rattle.list.specs.Play.{Play, headerWorld, playList}
+use Rattle.header.specs.Headers.{headerWorld}
+use Rattle.list.specs.Play.{Play, playList}
 use Rattle.play.specs.Run.{run}
 use Rattle.lines.specs.Lines.{codeDigits}
 use Rattle.report.specs.Report.{reportText}

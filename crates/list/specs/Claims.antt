@@ -12,9 +12,10 @@ use Rattle.command.specs.declared.Delivery.{Delivery}
 use Rattle.command.specs.Commands.{readCommand, found}
 use Rattle.world.specs.declared.World.{World}
 use Rattle.world.specs.Sizes.{storeBytes}
+use Rattle.header.specs.Headers.{headerOf, headerNumber, headerWorld}
 use Rattle.play.specs.Run.{Ask, Ran, run, callOf}
 use Rattle.safety.specs.Claims.{Safe, Delivered}
-use Rattle.list.specs.Play.{Play, headerOf, headerNumber, headerWorld, playList, askAt}
+use Rattle.list.specs.Play.{Play, playList, askAt}
 
 -- each call is of the list itself
 unfoldable pub OfList : List ℕ → List Ask → Type 0

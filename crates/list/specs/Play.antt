@@ -1,41 +1,17 @@
--- Playing a whole list. Header of 5 bytes: n, C, A, then willing sites as 16 bits, low byte first; then commands to the end.
--- Refusals: 16 store; 1 length over 32,768; 2 under 5; 3 to 5 sizes.
-use Prim.Native.Nat.{ℕ, zero, suc, _+_, _*_}
+-- Playing a whole list: a header of 5 bytes, then commands to the end.
+-- Refusals: 16 store; then the header's, 1 to 5.
+use Prim.Native.Nat.{ℕ, zero, suc, _+_}
 use mathlib.Core.List.{List, [], _∷_}
 use lib.Dec.{ltb, eqb}
-use lib.ListN.{length, getD}
+use lib.ListN.{length}
 use Rattle.choice.specs.Choice.{pick}
 use Rattle.world.specs.declared.World.{World}
-use Rattle.world.specs.Sizes.{listBytes, storeBytes, sizesNumber}
-use Rattle.world.specs.Worlds.{zeroWorld, freshWorld}
+use Rattle.world.specs.Sizes.{storeBytes}
+use Rattle.world.specs.Worlds.{zeroWorld}
+use Rattle.header.specs.Headers.{headerNumber, headerWorld}
 use Rattle.play.specs.Commands.{oneCommand}
 use Rattle.play.specs.Run.{Ask}
-use Rattle.list.specs.declared.Header.{Header}
 use Rattle.list.specs.declared.ListPlayed.{ListPlayed}
-
--- the header's numbers
-unfoldable pub headerOf : List ℕ → Header
-headerOf list =
-    record {
-      n = getD list 0 0;
-      commit = record { 0 = getD list 1 0 };
-      abort = record { 0 = getD list 2 0 };
-      willing = getD list 3 0 + 256 * getD list 4 0;
-    }
-
--- 3, 4 or 5; 0 for none
-unfoldable pub headerSizes : Header → ℕ
-headerSizes h = sizesNumber (h .n) (h .commit) (h .abort) (h .willing)
-
--- the number of a list's length and header, 0 for none
-unfoldable pub headerNumber : List ℕ → ℕ
-headerNumber list =
-    pick (ltb listBytes (length list)) 1 (pick (ltb (length list) 5) 2 (headerSizes (headerOf list)))
-
--- the header's fresh world
-unfoldable pub headerWorld : List ℕ → World
-headerWorld list =
-    freshWorld (headerOf list .n) (headerOf list .commit) (headerOf list .abort) (headerOf list .willing)
 
 -- what playing leaves: number (0: played to the end), world, accepted events and place; the store; and the calls made, in order
 pub record Play : Type 0 where

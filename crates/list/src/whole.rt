@@ -3,10 +3,11 @@ ghost use mathlib.Core.Path.{_≡_};
 ghost use Prim.Native.Nat.{_≤_};
 ghost use lib.ListN.{length};
 ghost use Rattle.world.specs.Worlds.{zeroWorld};
-ghost use Rattle.list.specs.Play.{headerNumber, headerWorld, playList};
+ghost use Rattle.header.specs.Headers.{headerNumber, headerWorld};
+ghost use Rattle.list.specs.Play.{playList};
 use crate::ListPlayed;
-use crate::headers::header_number;
-use crate::headers::read_header;
+use header::header_number;
+use header::read_header;
 use world::World;
 
 // The commands from the header's fresh world on. 17 is not asked again of the world; `enter` asks it of the news, where it never arises.

@@ -13,10 +13,11 @@ use Rattle.command.specs.Commands.{found, refused, target, delivery, readTarget
 use Rattle.world.specs.Sizes.{quorumsNumber, sizesNumber}
 use Rattle.world.specs.Worlds.{downSites, zeroWorld, freshSites, freshWorld, siteOf, isWilling, withSite, withRows, withNews}
 use Rattle.world.specs.Valid.{validGroup, validSite, validSites, validWorld}
+use Rattle.header.specs.Headers.{headerOf, headerSizes, headerNumber, headerWorld}
 use Rattle.play.specs.Calls.{refuse, putBack, enterSilent, enterRow, withinNews, enter}
 use Rattle.play.specs.Commands.{startCall, timeoutCall, crashCall, recoverCall, deliverRow, deliverCall, perform, performRead, playCommand, oneCommand}
 use Rattle.play.specs.Run.{callOf, afterCall, run}
-use Rattle.list.specs.Play.{headerOf, headerSizes, headerNumber, headerWorld, stopped, afterAsk, askAt, playFrom, refusedList, playList}
+use Rattle.list.specs.Play.{stopped, afterAsk, askAt, playFrom, refusedList, playList}
 use Rattle.text.specs.Text.{text, digitAt, decimal, named}
 use Rattle.lines.specs.Lines.{sizesLine, upWord, roleWord, stateWord, prepareLetter, groupLetter, outcomeLetter, logLetters, codeDigits, siteLine, siteLines, lastLine}
 use Rattle.report.specs.Report.{reportText}

@@ -8,11 +8,12 @@ use Rattle.choice.specs.Choice.{pick}
 use Rattle.choice.specs.laws.ChoiceLaws.{pick-ind}
 use Rattle.world.specs.declared.World.{World}
 use Rattle.world.specs.Sizes.{storeBytes}
+use Rattle.header.specs.Headers.{headerOf, headerNumber, headerWorld}
 use Rattle.play.specs.Calls.{Call}
 use Rattle.play.specs.Commands.{oneCommand}
 use Rattle.play.specs.Run.{Ask, callOf}
 use Rattle.safety.specs.laws.NeverOccurs.{never-occurs}
-use Rattle.list.specs.Play.{headerOf, headerNumber, headerWorld, stopped, afterAsk, askAt, playFrom, refusedList, playList}
+use Rattle.list.specs.Play.{stopped, afterAsk, askAt, playFrom, refusedList, playList}
 use Rattle.list.specs.Claims.{FollowOn, ListFollowsOn, ListNeverOccurs}
 use Rattle.list.specs.laws.PlayLaws.{play-ind}
 

@@ -10,12 +10,12 @@ use Rattle.world.specs.declared.World.{World}
 use Rattle.world.specs.Sizes.{listBytes, storeBytes}
 use Rattle.world.specs.Valid.{validWorld}
 use Rattle.world.specs.laws.WorldLaws.{valid-sized}
+use Rattle.header.specs.Headers.{headerOf, headerWorld}
 use Rattle.play.specs.Commands.{playCommand, oneCommand}
 use Rattle.play.specs.laws.CallLaws.{one-is-play}
 use Rattle.safety.specs.Claims.{Shaped}
 use Rattle.safety.specs.laws.Unchanging.{accepted-keeps-the-rest}
 use Rattle.safety.specs.laws.News.{fresh-none}
-use Rattle.list.specs.Play.{headerOf, headerWorld}
 use Rattle.list.specs.laws.Places.{Told}
 use Rattle.list.specs.laws.CommandLaws.{news-told}
 use Rattle.list.specs.laws.PlayLaws.{Further, further-one}

@@ -3,10 +3,11 @@ use Prim.Native.Nat.{ℕ}
 use mathlib.Core.List.{List}
 use mathlib.Core.Path.{refl, ap, sym, _∙_}
 use lib.ListN.{length, getD}
+use Rattle.header.specs.Headers.{headerWorld}
 use Rattle.play.specs.Run.{run}
 use Rattle.safety.specs.Claims.{Beyond}
 use Rattle.safety.specs.laws.RunStores.{runs-keep-beyond}
-use Rattle.list.specs.Play.{Play, headerWorld, stopped, refusedList, playList}
+use Rattle.list.specs.Play.{Play, stopped, refusedList, playList}
 use Rattle.list.specs.Claims.{IsRun, KeptBeyond, ListKeepsBeyond}
 use Rattle.list.specs.laws.ListTheorems.{by-run}
 

@@ -15,6 +15,8 @@ use Rattle.world.specs.Sizes.{maxNews, listBytes, storeBytes}
 use Rattle.world.specs.Worlds.{zeroWorld}
 use Rattle.world.specs.Valid.{validWorld}
 use Rattle.world.specs.laws.WorldLaws.{valid-sized}
+use Rattle.header.specs.Headers.{headerOf, headerNumber, headerWorld}
+use Rattle.header.specs.laws.HeaderLaws.{headed, header-small}
 use Rattle.play.specs.Calls.{Call}
 use Rattle.play.specs.Commands.{oneCommand}
 use Rattle.play.specs.Run.{Ask, run, callOf, afterCall}
@@ -23,12 +25,12 @@ use Rattle.safety.specs.Claims.{Shaped}
 use Rattle.safety.specs.laws.Unchanging.{refused-changes-nothing}
 use Rattle.safety.specs.laws.Demand3.{demand3}
 use Rattle.safety.specs.laws.News.{run-adds}
-use Rattle.list.specs.Play.{Play, headerOf, headerNumber, headerWorld, stopped, afterAsk, askAt, playFrom, refusedList, playList}
+use Rattle.list.specs.Play.{Play, stopped, afterAsk, askAt, playFrom, refusedList, playList}
 use Rattle.list.specs.Claims.{OfList, IsRun, ListIsRun, ListSafe, ListNewsIsSum, ListNewsIsLow, Ends, ListEnds}
 use Rattle.list.specs.laws.CommandLaws.{number-below}
 use Rattle.list.specs.laws.PlayLaws.{play-ind, Further, further-one}
 use Rattle.list.specs.laws.ListNews.{header-none, Heard, heard-first, heard-low, heard-on}
-use Rattle.list.specs.laws.HeaderLaws.{headed, header-valid, header-shaped, header-small, whole-from}
+use Rattle.list.specs.laws.HeaderLaws.{header-valid, header-shaped, whole-from}
 
 -- demand 3: a list's records are those of a run
 pub list-safe : ListSafe

@@ -8,12 +8,14 @@ use lib.ListN.{length}
 use Rattle.world.specs.declared.World.{World}
 use Rattle.world.specs.Sizes.{storeBytes}
 use Rattle.world.specs.Valid.{validWorld}
+use Rattle.header.specs.Headers.{headerNumber, headerWorld}
+use Rattle.header.specs.laws.HeaderLaws.{headed}
 use Rattle.play.specs.Commands.{playCommand}
 use Rattle.safety.specs.Claims.{Shaped}
-use Rattle.list.specs.Play.{Play, headerNumber, headerWorld, stopped, playList}
+use Rattle.list.specs.Play.{Play, stopped, playList}
 use Rattle.list.specs.laws.CommandLaws.{refused-same}
 use Rattle.list.specs.laws.PlayLaws.{Further, further, rest, rest-ends, rest-stops, on-played, on-store}
-use Rattle.list.specs.laws.HeaderLaws.{headed, header-valid, header-shaped, whole}
+use Rattle.list.specs.laws.HeaderLaws.{header-valid, header-shaped, whole}
 
 -- before a command, or at the end, of a list whose whole play is p
 pub record Underway (p : Play) (w : World) (store list : List ℕ) (at events : ℕ) : Type 0 where

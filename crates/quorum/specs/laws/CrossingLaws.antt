@@ -17,14 +17,16 @@ use Rattle.world.specs.laws.SizesLaws.{Sized}
 use Rattle.world.specs.Worlds.{zeroWorld, freshWorld}
 use Rattle.world.specs.Valid.{validWorld}
 use Rattle.world.specs.laws.WorldLaws.{valid-parts, valid-sized}
+use Rattle.header.specs.Headers.{headerNumber, headerWorld}
+use Rattle.header.specs.laws.HeaderLaws.{headed}
 use Rattle.play.specs.Calls.{Call, refuse}
 use Rattle.play.specs.Commands.{oneCommand}
 use Rattle.play.specs.Run.{Ask}
 use Rattle.safety.specs.Claims.{Shaped}
 use Rattle.safety.specs.laws.Shape.{shaped-fresh}
-use Rattle.list.specs.Play.{Play, headerNumber, headerWorld, stopped, afterAsk, askAt, playFrom, refusedList, playList}
+use Rattle.list.specs.Play.{Play, stopped, afterAsk, askAt, playFrom, refusedList, playList}
 use Rattle.list.specs.laws.PlayLaws.{play-ind, Further, further-one}
-use Rattle.list.specs.laws.HeaderLaws.{headed, header-valid, header-shaped}
+use Rattle.list.specs.laws.HeaderLaws.{header-valid, header-shaped}
 use Rattle.list.specs.laws.CommandLaws.{next-valid}
 use Rattle.layout.specs.Layout.{worldBytes, putWorld, worldAt, inLayout}
 use Rattle.layout.specs.Claims.{Fits}

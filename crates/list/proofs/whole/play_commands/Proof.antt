@@ -1,4 +1,4 @@
-use Rattle.list.specs.laws.HeaderLaws.{headed}
+use Rattle.header.specs.laws.HeaderLaws.{headed}
 use Rattle.world.specs.Worlds.{withSite, withRows, withNews}
 use Rattle.world.specs.laws.PartLaws.{siteOf-within}
 use Rattle.list.specs.laws.LoopLaws.{may-act, changes-on, changes-past, changes-out}

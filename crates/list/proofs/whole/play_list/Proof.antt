@@ -1,13 +1,14 @@
 use borrow.Author.Needs.{needs}
 use mathlib.Core.Path.{sym, _∙_}
 use borrow.Author.Tests.{lt-ltb, le-ltb, ne-eqb}
-use Rattle.list.specs.Play.{headerWorld, playList, refusedList, stopped}
+use Rattle.header.specs.Headers.{headerWorld}
+use Rattle.list.specs.Play.{playList, refusedList, stopped}
 use Rattle.list.proofs.whole.play_list.Statement.{statement}
 use Rattle.list.proofs.whole.play_list.Tie as tie
 use Rattle.list.proofs.whole.play_list.Reads as reads
 use Rattle.list.proofs.whole.play_list.Lts as lts
-use Rattle.list.proofs.headers.header_number.Reads as header-number-reads
-use Rattle.list.proofs.headers.read_header.Reads as read-header-reads
+use Rattle.header.proofs.header_number.Reads as header-number-reads
+use Rattle.header.proofs.read_header.Reads as read-header-reads
 use Rattle.list.proofs.whole.play_commands.Reads as play-commands-reads
 use Rattle.list.proofs.whole.refused_list.Reads as refused-list-reads
 use Rattle.world.proofs.World.fresh.Reads as fresh-reads

@@ -1,11 +1,11 @@
 use borrow.Author.Needs.{needs}
 use borrow.Author.Tests.{lt-ltb, le-ltb}
-use Rattle.list.specs.Play.{headerNumber, headerSizes}
-use Rattle.list.proofs.headers.header_number.Statement.{statement}
-use Rattle.list.proofs.headers.header_number.Tie as tie
-use Rattle.list.proofs.headers.header_number.Reads as reads
-use Rattle.list.proofs.headers.header_number.Lts as lts
-use Rattle.list.proofs.headers.read_header.Reads as read-header-reads
+use Rattle.header.specs.Headers.{headerNumber, headerSizes}
+use Rattle.header.proofs.header_number.Statement.{statement}
+use Rattle.header.proofs.header_number.Tie as tie
+use Rattle.header.proofs.header_number.Reads as reads
+use Rattle.header.proofs.header_number.Lts as lts
+use Rattle.header.proofs.read_header.Reads as read-header-reads
 use Rattle.world.proofs.sizes_number.Reads as sizes-number-reads
 
 returns : tie.Need-returns

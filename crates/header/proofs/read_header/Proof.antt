@@ -1,9 +1,9 @@
 use borrow.Author.Needs.{needs}
-use Rattle.list.specs.Play.{headerOf}
-use Rattle.list.proofs.headers.read_header.Statement.{statement}
-use Rattle.list.proofs.headers.read_header.Tie as tie
-use Rattle.list.proofs.headers.read_header.Reads as reads
-use Rattle.list.proofs.headers.read_header.Lts as lts
+use Rattle.header.specs.Headers.{headerOf}
+use Rattle.header.proofs.read_header.Statement.{statement}
+use Rattle.header.proofs.read_header.Tie as tie
+use Rattle.header.proofs.read_header.Reads as reads
+use Rattle.header.proofs.read_header.Lts as lts
 use Rattle.command.proofs.byte_at.Reads as byte-at-reads
 
 byte-at-requires : tie.Need-byte-at-requires

@@ -1,11 +1,18 @@
 // The header of a list, and the refusals 1 to 5.
 ghost use mathlib.Core.Path.{_≡_};
-ghost use Rattle.list.specs.Play.{headerOf, headerNumber};
-use crate::Header;
+ghost use Rattle.header.specs.Headers.{headerOf, headerNumber};
 use command::byte_at;
 use site::AbortQuorum;
 use site::CommitQuorum;
 use world::World;
+
+// The header's numbers, each of its kind.
+pub struct Header {
+    pub n: usize,
+    pub commit: CommitQuorum,
+    pub abort: AbortQuorum,
+    pub willing: usize,
+}
 
 // n, C, A, and the willing sites with their low byte first.
 pub fn read_header(list: &[u8]) -> Header
