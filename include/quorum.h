@@ -14,7 +14,7 @@
  * - Numbers in buffers have their low byte first. A world is QC_WORLD_BYTES bytes, laid out as docs/LAYOUT.md says; a C program need only keep
  *   it and hand it back.
  * - The answer is QC_ACCEPTED, or the number of the first check that failed. They are made in the order 16, 17, 1 to 15, 18; last of all, for a
- *   delivery, 17 again (see NEWS).
+ *   delivery, 17 again (see NEWS). The two calls between lists and lines have an order of their own (see LINES).
  *
  * A list is a header of QC_HEADER_BYTES bytes and then commands:
  *     header      n, the number of sites; C, the commit quorum; A, the abort quorum; the willing sites as 16 bits, bit i for site i
@@ -67,6 +67,20 @@
  * that does not raise this number was idle: it told its site nothing new of the others (the site may still have written a record or replied). What a
  * CRASH makes a site forget is not taken off, and counts again when it is told again. No call leaves more than QC_NEWS: a world handed in with more is
  * 17, and so is, after all other checks, a delivery that would pass it. No list is long enough for that.
+ *
+ * LINES. A list can also be typed: a line for its header, then one line a command. Each line with the bytes that it stands for:
+ *     sites 3 commit 2 abort 2 willing 7    03 02 02 07 00
+ *     start                                 01
+ *     deliver 258 1                         02 02 01 01    the row, then the site
+ *     timeout 0                             03 00
+ *     crash 0                               04 00
+ *     recover 0                             05 00
+ * Numbers are decimal, without leading noughts (but 0 is `0`): willing and the row to 65,535, all others to 255. Between words stands one blank, and no
+ * other. Each line ends with a line feed, the last one too; there is no carriage return, no tab and no empty line. So a list has one text:
+ * qc_write_lines and qc_read_lines undo each other, and a text that is spelt otherwise is refused. Commands are read here, and neither played nor held
+ * to the header: a site or row that is not there may be written, and stops the list when it is played. The first byte of a list is always n.
+ * Both calls check 17 first, which here is a result of another length and nothing else. Then qc_write_lines checks 1 to 7, and qc_read_lines 19
+ * over the whole text, 1, 3 to 5; last of all 20.
  */
 #ifndef QUORUM_H
 #define QUORUM_H
@@ -75,25 +89,27 @@
 #include <stdint.h>
 
 /* The major number goes up when a program may have to change, the minor one when something is added. Version 3: a world has its news (layout 2),
- * and the report's first line ends with it. */
+ * and the report's first line ends with it. 3.1 adds lists as lines, with 19 and 20. */
 #define QC_VERSION_MAJOR 3
-#define QC_VERSION_MINOR 0
+#define QC_VERSION_MINOR 1
 #define QC_LAYOUT 2 /* of a world's bytes: its first byte */
 
-#define QC_SITES 16          /* site records of a world, and codes of a row */
-#define QC_ROWS 1024         /* rows: at most */
-#define QC_NEWS 491520       /* news: at most */
-#define QC_HEADER_BYTES 5    /* a list's header */
-#define QC_LIST_BYTES 32768  /* a whole list: at most */
-#define QC_ROW_BYTES 20      /* a row */
-#define QC_WORLD_BYTES 656   /* a world: exactly */
-#define QC_STORE_BYTES 20480 /* a store of rows: at least */
-#define QC_REPORT_BYTES 1024 /* a report buffer: at least */
-#define QC_RESULT_BYTES 8    /* a result: exactly */
+#define QC_SITES 16              /* site records of a world, and codes of a row */
+#define QC_ROWS 1024             /* rows: at most */
+#define QC_NEWS 491520           /* news: at most */
+#define QC_HEADER_BYTES 5        /* a list's header */
+#define QC_LIST_BYTES 32768      /* a whole list: at most */
+#define QC_TEXT_BYTES 196620     /* a list's text: at most; a buffer of as many always has room for it */
+#define QC_ROW_BYTES 20          /* a row */
+#define QC_WORLD_BYTES 656       /* a world: exactly */
+#define QC_STORE_BYTES 20480     /* a store of rows: at least */
+#define QC_REPORT_BYTES 1024     /* a report buffer: at least */
+#define QC_RESULT_BYTES 8        /* a result of the calls that play or report: exactly */
+#define QC_LINES_RESULT_BYTES 16 /* a result of the two calls between lists and lines: exactly */
 
 /* Every answer: its name, number and meaning. 17 is a world or result of another length than it must have, a world's bytes outside the layout, a
  * world whose values do not fit together or whose news is over 491,520, for the report also an event count, place or number out of its range, and,
- * checked last, after 15, a delivery that would bring the news over 491,520. */
+ * checked last, after 15, a delivery that would bring the news over 491,520. 19 is met by qc_read_lines alone, 20 by it and qc_write_lines. */
 #define QC_ANSWERS(answer)                                                                                      \
     answer(QC_ACCEPTED, 0, "accepted")                                                                          \
     answer(QC_LIST_LONG, 1, "the list is longer than 32,768 bytes")                                             \
@@ -113,7 +129,9 @@
     answer(QC_STORE_FULL, 15, "a row is to be added and 1,024 are there")                                       \
     answer(QC_STORE_SHORT, 16, "the store is shorter than 20,480 bytes")                                        \
     answer(QC_BAD_WORLD, 17, "the world, the result or a report number is wrong, or news would pass 491,520")   \
-    answer(QC_REPORT_SHORT, 18, "the report buffer is shorter than 1,024 bytes")
+    answer(QC_REPORT_SHORT, 18, "the report buffer is shorter than 1,024 bytes")                                \
+    answer(QC_BAD_LINE, 19, "a line is not in the form, or a number in it is past its range")                   \
+    answer(QC_ROOM_SHORT, 20, "the buffer is shorter than what is to be written to it")
 
 #define QC_ENTRY(name, number, text) name = number,
 enum qc_answer { QC_ANSWERS(QC_ENTRY) QC_ANSWER_COUNT };
@@ -177,7 +195,7 @@ uint32_t qc_play_command(uint8_t *world, size_t world_length,
 
 /* Write the report of a world as text: a line of sizes and counts, a line for each site, and `end PLACE`, or `refused NUMBER at PLACE` where number
  * is not 0. Lines end with a newline byte; there is no zero byte at the end.
- * events, number, place: what qc_play_list gave; events and place at most 32,768, number at most 18.
+ * events, number, place: what qc_play_list gave; events and place at most 32,768, number at most 20.
  * buffer: may hold anything; gets the text from its beginning, and is left as it was beyond it.
  * result: bytes 0 to 7 get the text's length, 64 bits (at most 1,024).
  * Gives 0 if written; else 17, then 18, and no buffer is touched. After 16 and 1 to 5 of qc_play_list the world is that of zeros, and here 17. */
@@ -185,6 +203,28 @@ uint32_t qc_report(const uint8_t *world, size_t world_length,
                    size_t events, uint32_t number, size_t place,
                    uint8_t *buffer, size_t buffer_length,
                    uint8_t *result, size_t result_length);
+
+/* Write a list as lines (see LINES above). There is no zero byte at the end.
+ * list:   any bytes.
+ * buffer: may hold anything; gets the text from its beginning, and is left as it was beyond it. QC_TEXT_BYTES bytes are always enough.
+ * result: QC_LINES_RESULT_BYTES bytes. 0 to 7 get the text's length, 64 bits; 8 to 15 the place, 64 bits: the list's length. Where the call is refused
+ *         the length is 0, and the place is the command's byte for 6 and 7, else 0.
+ * Gives 0 if written; else 17, and nothing is touched; or 1 to 7 for the list, 20 for the buffer, and the buffer is untouched. A list that ends
+ * after a whole command is not 6. */
+uint32_t qc_write_lines(const uint8_t *list, size_t list_length,
+                        uint8_t *buffer, size_t buffer_length,
+                        uint8_t *result, size_t result_length);
+
+/* Read lines (see LINES above) as a list.
+ * text:   any bytes, of any length.
+ * buffer: may hold anything; gets the list from its beginning, and is left as it was beyond it. QC_LIST_BYTES bytes are always enough.
+ * result: QC_LINES_RESULT_BYTES bytes. 0 to 7 get the list's length, 64 bits; 8 to 15 the place, 64 bits: the text's length. Where the call is refused
+ *         the length is 0, and the place is the first byte of the first bad line for 19 (0 in an empty text), else 0.
+ * Gives 0 if read; else 17, and nothing is touched; or 19 for a line, 1 where the list would be longer than QC_LIST_BYTES, 3 to 5 for its header,
+ * 20 for the buffer, and the buffer is untouched. */
+uint32_t qc_read_lines(const uint8_t *text, size_t text_length,
+                       uint8_t *buffer, size_t buffer_length,
+                       uint8_t *result, size_t result_length);
 
 #ifdef __cplusplus
 }

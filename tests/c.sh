@@ -28,8 +28,9 @@ for header in include/*.h; do
     cc -std=c99 "${strict[@]}" -fsyntax-only -x c "$header"
     c++ "${strict[@]}" -fsyntax-only -x c++ "$header"
 done
-c++ "${strict[@]}" -fsyntax-only -x c++ tests/readers.c
-build readers tests/readers.c
+readers=(tests/readers.c tests/line_readers.c)
+c++ "${strict[@]}" -fsyntax-only -x c++ "${readers[@]}"
+build readers "${readers[@]}"
 target/readers
 build cases tests/cases/*.c
 target/cases
@@ -51,6 +52,62 @@ done
 status 2 target/play_day "$work/missing"
 status 2 target/play_day "$work"
 echo "C: play_day prints every vector's report; 0, 1 ($refused lists) and 2 as its exit status"
+
+build play_lines examples/play_lines.c
+status 0 target/play_lines examples/m3.txt
+cmp "$work/got" crates/player/stdout
+status 0 target/play_lines < examples/m3.txt
+cmp "$work/got" crates/player/stdout
+played=0
+refused=0
+for text in tests/vectors/03-lines/read/*.txt; do
+    answer=${text%.txt}.out
+    if grep -aqx 'refused [0-9]* at [0-9]*' "$answer"; then
+        refused=$((refused + 1))
+        status 1 target/play_lines "$text"
+        cmp "$work/got" "$answer"
+    else
+        # the answer is the text's list, which play_day plays
+        played=$((played + 1))
+        wanted=0
+        target/play_day "$answer" > "$work/report" 2> "$work/errors" || wanted=$?
+        status "$wanted" target/play_lines "$text"
+        cmp "$work/got" "$work/report"
+    fi
+done
+if [ "$played" -lt 19 ] || [ "$refused" -lt 61 ]; then
+    fail "only $played texts are played and $refused refused"
+fi
+status 2 target/play_lines "$work/missing"
+status 2 target/play_lines "$work"
+
+shown=0
+show() { # TEXT LAST ERROR: play_lines refuses the text; the last line that it prints, and what it says of the line at fault
+    printf '%b' "$1" > "$work/typed"
+    status 1 target/play_lines "$work/typed"
+    [ "$(tail -n 1 "$work/got")" = "$2" ] || fail "play_lines: '${1:0:99}' does not end with '$2'"
+    [ "$(cat "$work/errors")" = "$3" ] || fail "play_lines: of '${1:0:99}' it does not say '$3'"
+    shown=$((shown + 1))
+}
+
+first='sites 3 commit 2 abort 2 willing 7\n'
+form='a line is not in the form, or a number in it is past its range'
+show '' 'refused 19 at 0' "line 1: \"\", without a line feed: $form"
+show 'start\n' 'refused 19 at 0' "line 1: \"start\": $form"
+show "${first}start\ndeliver 01 0\nstop\n" 'refused 19 at 41' "line 3: \"deliver 01 0\": $form"
+show "${first}start \n" 'refused 19 at 35' "line 2: \"start \": $form"
+show "${first}start\r\n" 'refused 19 at 35' "line 2: \"start\\x0d\": $form"
+show "${first}start" 'refused 19 at 35' "line 2: \"start\", without a line feed: $form"
+x72=$(printf 'x%.0s' {1..72})
+show "$first$x72\n" 'refused 19 at 35' "line 2: \"$x72\": $form"
+show "$first${x72}x\n" 'refused 19 at 35' "line 2: \"$x72..\": $form"
+show "${first}\nstart\n" 'refused 19 at 35' "line 2: \"\": $form"
+show 'sites 2 commit 2 abort 2 willing 3\nstart\n' 'refused 3 at 0' \
+    'line 1: "sites 2 commit 2 abort 2 willing 3": the number of sites is not 3 to 16'
+show "${first}start\ndeliver 0 1\ntimeout 3\nstart\n" 'refused 8 at 10' 'line 4: "timeout 3": site number n or more'
+show "$first$(printf 'start\\n%.0s' {1..32764})" 'refused 1 at 0' 'refused: the list is longer than 32,768 bytes'
+show "$first$(printf 'start\\n%.0s' {1..70000})stop\n" 'refused 19 at 420035' "line 70002: \"stop\": $form"
+echo "C: play_lines plays $played texts as play_day their lists, refuses $refused, and shows the line at fault ($shown texts)"
 
 build club examples/club.c
 seeds=300

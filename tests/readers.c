@@ -1,11 +1,11 @@
 /* Plays lists through the library and holds what the header's readers say to what documents 01 and 02 give, worked out by hand.
- * Exits 0 if all is as it should be, 1 after the first difference. Also checked as C++.
+ * Exits 0 if all is as it should be, 1 after the first difference. Also checked as C++. Lists as lines are in line_readers.c.
  */
 #include <stdio.h>
 #include <stdlib.h>
 #include <string.h>
 
-#include "../include/quorum_read.h"
+#include "readers.h"
 
 static uint8_t store[QC_STORE_BYTES];
 static uint8_t world[QC_WORLD_BYTES];
@@ -13,26 +13,25 @@ static uint8_t text[QC_REPORT_BYTES];
 static uint8_t result[QC_RESULT_BYTES];
 static unsigned checks;
 
-#define CHECK(got, wanted) check(__LINE__, (got), (wanted))
-#define CHECK_TEXT(got, wanted) check_text(__LINE__, (got), (wanted))
-
-static void check(int line, uint64_t got, uint64_t wanted)
+void check(const char *where, uint64_t got, uint64_t wanted)
 {
     checks++;
     if (got != wanted) {
-        printf("readers: line %d: %llu, not %llu\n", line, (unsigned long long)got, (unsigned long long)wanted);
+        printf("readers: %s: %llu, not %llu\n", where, (unsigned long long)got, (unsigned long long)wanted);
         exit(1);
     }
 }
 
-static void check_text(int line, const char *got, const char *wanted)
+static void check_text(const char *where, const char *got, const char *wanted)
 {
     checks++;
     if (strcmp(got, wanted) != 0) {
-        printf("readers: line %d: '%s', not '%s'\n", line, got, wanted);
+        printf("readers: %s: '%s', not '%s'\n", where, got, wanted);
         exit(1);
     }
 }
+
+#define CHECK_TEXT(got, wanted) check_text(HERE, (got), (wanted))
 
 /* Commands, for lists below. */
 #define HEADER(n, c, a, low, high) n, c, a, low, high
@@ -48,14 +47,14 @@ static uint32_t play(const uint8_t *list, size_t length)
 }
 
 /* Plays a list and asks for its answer, accepted events and end place. */
-static void check_play(int line, const uint8_t *list, size_t length, unsigned answer, unsigned events, unsigned place)
+static void check_play(const char *where, const uint8_t *list, size_t length, unsigned answer, unsigned events, unsigned place)
 {
-    check(line, play(list, length), answer);
-    check(line, qc_result_events(result), events);
-    check(line, qc_result_place(result), place);
+    check(where, play(list, length), answer);
+    check(where, qc_result_events(result), events);
+    check(where, qc_result_place(result), place);
 }
 
-#define CHECK_PLAY(list, answer, events, place) check_play(__LINE__, list, sizeof list, answer, events, place)
+#define CHECK_PLAY(list, answer, events, place) check_play(HERE, list, sizeof list, answer, events, place)
 
 /* Codes as digits. */
 static const char *digits(unsigned (*code)(const uint8_t *, unsigned, unsigned), const uint8_t *bytes, unsigned of)
@@ -80,18 +79,18 @@ static const char *site_line(unsigned site)
     return line;
 }
 
-static void check_row(int line, unsigned row, unsigned kind, unsigned sender, unsigned destinations, const char *codes)
+static void check_row(const char *where, unsigned row, unsigned kind, unsigned sender, unsigned destinations, const char *codes)
 {
     unsigned site;
-    check(line, qc_row_kind(store, row), kind);
-    check(line, qc_row_sender(store, row), sender);
-    check(line, qc_row_destinations(store, row), destinations);
+    check(where, qc_row_kind(store, row), kind);
+    check(where, qc_row_sender(store, row), sender);
+    check(where, qc_row_destinations(store, row), destinations);
     for (site = 0; site < QC_SITES; site++)
-        check(line, (uint64_t)qc_row_goes_to(store, row, site), destinations >> site & 1);
-    check_text(line, digits(qc_row_code, store, row), codes);
+        check(where, (uint64_t)qc_row_goes_to(store, row, site), destinations >> site & 1);
+    check_text(where, digits(qc_row_code, store, row), codes);
 }
 
-#define CHECK_ROW(row, kind, sender, destinations, codes) check_row(__LINE__, row, kind, sender, destinations, codes)
+#define CHECK_ROW(row, kind, sender, destinations, codes) check_row(HERE, row, kind, sender, destinations, codes)
 
 static const uint8_t m3[] = {HEADER(3, 2, 2, 7, 0), START,         DELIVER(0, 1), DELIVER(1, 0), TIMEOUT(0),
                              DELIVER(2, 2),         DELIVER(3, 0), TIMEOUT(0)};
@@ -322,14 +321,16 @@ static void texts(void)
 {
     const char *none = qc_answer_text(QC_ANSWER_COUNT);
     uint32_t one, other;
-    CHECK(QC_ANSWER_COUNT, 19);
+    CHECK(QC_ANSWER_COUNT, 21);
     CHECK_TEXT(none, "no answer of this library");
     CHECK_TEXT(qc_answer_text(UINT32_MAX), none);
     CHECK_TEXT(qc_answer_text(QC_ACCEPTED), "accepted");
     CHECK_TEXT(qc_answer_text(12), "the site is down");
-    for (one = 0; one < 19; one++) {
+    CHECK_TEXT(qc_answer_text(19), "a line is not in the form, or a number in it is past its range");
+    CHECK_TEXT(qc_answer_text(20), "the buffer is shorter than what is to be written to it");
+    for (one = 0; one < 21; one++) {
         CHECK((uint64_t)(strlen(qc_answer_text(one)) > 0), 1);
-        for (other = one + 1; other <= 19; other++)
+        for (other = one + 1; other <= 21; other++)
             CHECK((uint64_t)(strcmp(qc_answer_text(one), qc_answer_text(other)) != 0), 1);
     }
 }
@@ -347,6 +348,7 @@ int main(void)
     a_full_store();
     one_at_a_time();
     reports();
+    line_readers();
     numbers();
     texts();
     printf("readers: %u checks of the C header's readers against the worked days\n", checks);

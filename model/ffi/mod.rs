@@ -42,6 +42,24 @@ extern "C" {
         result: *mut u8,
         result_len: usize,
     ) -> u32;
+
+    fn qc_write_lines(
+        list: *const u8,
+        list_len: usize,
+        buffer: *mut u8,
+        buffer_len: usize,
+        result: *mut u8,
+        result_len: usize,
+    ) -> u32;
+
+    fn qc_read_lines(
+        text: *const u8,
+        text_len: usize,
+        buffer: *mut u8,
+        buffer_len: usize,
+        result: *mut u8,
+        result_len: usize,
+    ) -> u32;
 }
 
 /// The proved library. Its functions ask nothing of their arguments.
@@ -91,6 +109,34 @@ impl Calls for Library {
                 numbers.events,
                 numbers.stop,
                 numbers.place,
+                buffer.as_mut_ptr(),
+                buffer.len(),
+                result.as_mut_ptr(),
+                result.len(),
+            )
+        }
+    }
+
+    fn write_lines(&self, list: &[u8], buffer: &mut [u8], result: &mut [u8]) -> u32 {
+        // SAFETY: as above.
+        unsafe {
+            qc_write_lines(
+                list.as_ptr(),
+                list.len(),
+                buffer.as_mut_ptr(),
+                buffer.len(),
+                result.as_mut_ptr(),
+                result.len(),
+            )
+        }
+    }
+
+    fn read_lines(&self, text: &[u8], buffer: &mut [u8], result: &mut [u8]) -> u32 {
+        // SAFETY: as above.
+        unsafe {
+            qc_read_lines(
+                text.as_ptr(),
+                text.len(),
                 buffer.as_mut_ptr(),
                 buffer.len(),
                 result.as_mut_ptr(),

@@ -1,17 +1,21 @@
-//! The three calls offered to C, on bytes, as the model answers them:
+//! The five calls offered to C, on bytes, as the model answers them:
 //! docs/LAYOUT.md.
 
 use crate::command::Ask;
 use crate::layout::{decode, encode, update, WORLD_BYTES};
+use crate::lines::{read_lines, write_lines, Output};
 use crate::number;
 use crate::play::{check_store, play_command, play_list_by, Played};
 use crate::report::{report, Numbers};
 use crate::world::World;
 
-/// Bytes of every result buffer.
+/// Bytes of the result buffer of a call that plays or reports.
 pub const RESULT_BYTES: usize = 8;
+/// Bytes of the result buffer of a call on lines: the output's length, and the
+/// place.
+pub const LINES_RESULT_BYTES: usize = 16;
 
-/// One side of a comparison: anything that answers the three calls.
+/// One side of a comparison: anything that answers the five calls.
 pub trait Calls {
     /// A whole list; the world and the result are written where they have their
     /// lengths.
@@ -22,6 +26,13 @@ pub trait Calls {
 
     /// The report; a refusal touches nothing.
     fn report(&self, world: &[u8], numbers: Numbers, buffer: &mut [u8], result: &mut [u8]) -> u32;
+
+    /// A list as lines; the result is written where it has its length, and a
+    /// refusal touches no other buffer.
+    fn write_lines(&self, list: &[u8], buffer: &mut [u8], result: &mut [u8]) -> u32;
+
+    /// Lines as a list, likewise.
+    fn read_lines(&self, text: &[u8], buffer: &mut [u8], result: &mut [u8]) -> u32;
 }
 
 /// The rules behind the calls: what a player does with worlds. As they stand
@@ -41,6 +52,16 @@ pub trait Rules {
 
     fn text(&self, world: &World, numbers: Numbers, buffer: &mut [u8]) -> Result<usize, u8> {
         report(world, numbers, buffer)
+    }
+
+    /// A list as lines.
+    fn written(&self, list: &[u8], buffer: &mut [u8]) -> Output {
+        write_lines(list, buffer)
+    }
+
+    /// Lines as a list.
+    fn read(&self, text: &[u8], buffer: &mut [u8]) -> Output {
+        read_lines(text, buffer)
     }
 }
 
@@ -76,6 +97,14 @@ impl<R: Rules> Calls for R {
         let size = world_for(world, result).and_then(|world| self.text(&world, numbers, buffer));
         answer(size, result)
     }
+
+    fn write_lines(&self, list: &[u8], buffer: &mut [u8], result: &mut [u8]) -> u32 {
+        answer_lines(result, || self.written(list, buffer))
+    }
+
+    fn read_lines(&self, text: &[u8], buffer: &mut [u8], result: &mut [u8]) -> u32 {
+        answer_lines(result, || self.read(text, buffer))
+    }
 }
 
 /// The world handed in, where the result buffer is as it should be.
@@ -95,4 +124,16 @@ fn answer(found: Result<usize, u8>, result: &mut [u8]) -> u32 {
         }
         Err(refusal) => refusal.into(),
     }
+}
+
+/// Writes what a call on lines gives into the result, accepted or refused;
+/// nothing is done where the result has another length.
+fn answer_lines(result: &mut [u8], call: impl FnOnce() -> Output) -> u32 {
+    if result.len() != LINES_RESULT_BYTES {
+        return number::WORLD.into();
+    }
+    let output = call();
+    result[..8].copy_from_slice(&(output.length as u64).to_le_bytes());
+    result[8..].copy_from_slice(&(output.place as u64).to_le_bytes());
+    output.number.into()
 }

@@ -50,15 +50,22 @@ impl Command {
 
     /// The command as it stands in a list.
     pub fn bytes(self) -> Vec<u8> {
+        let mut bytes = Vec::new();
+        self.push(&mut bytes);
+        bytes
+    }
+
+    /// Adds the command to a list.
+    pub fn push(self, list: &mut Vec<u8>) {
         match self {
-            Command::Start => vec![1],
+            Command::Start => list.push(1),
             Command::Deliver { row, site } => {
                 let [low, high] = (row as u16).to_le_bytes();
-                vec![2, low, high, site as u8]
+                list.extend([2, low, high, site as u8]);
             }
-            Command::Timeout(site) => vec![3, site as u8],
-            Command::Crash(site) => vec![4, site as u8],
-            Command::Recover(site) => vec![5, site as u8],
+            Command::Timeout(site) => list.extend([3, site as u8]),
+            Command::Crash(site) => list.extend([4, site as u8]),
+            Command::Recover(site) => list.extend([5, site as u8]),
         }
     }
 

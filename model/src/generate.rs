@@ -3,8 +3,11 @@
 mod call;
 mod guide;
 mod header;
+mod lines;
 mod rng;
 mod spoil;
+mod text;
+mod unplayed;
 
 pub use call::Call;
 pub use rng::Rng;

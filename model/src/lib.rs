@@ -1,16 +1,18 @@
 //! An independent model of the quorum commitment player for inter-club sheets.
 //!
-//! The rules, the checks and the report are written from documents 01 and 02, with
-//! mutable state and plain Rust, so that another player can be compared with
-//! them. Only layout.rs and calls.rs follow docs/LAYOUT.md: they say how a
-//! world and the answers cross to C.
+//! The rules, the checks, the report and the lines are written from documents 01
+//! and 02, with mutable state and plain Rust, so that another player can be
+//! compared with them. Only layout.rs and calls.rs follow docs/LAYOUT.md: they say
+//! how a world and the answers cross to C.
 
 #![forbid(unsafe_code)]
 
 pub mod calls;
 pub mod command;
+pub mod flaw;
 pub mod generate;
 pub mod layout;
+pub mod lines;
 pub mod meeting;
 pub mod number;
 pub mod play;
@@ -26,6 +28,7 @@ pub mod vector;
 pub mod world;
 
 pub use command::{Ask, Command};
+pub use lines::{read_lines, write_lines, Output};
 pub use play::{one_command, play_list, Played};
 pub use player::printed;
 pub use report::{report, Numbers};

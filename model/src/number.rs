@@ -39,5 +39,9 @@ pub const STORE: u8 = 16;
 pub const WORLD: u8 = 17;
 /// Report buffer too short.
 pub const BUFFER: u8 = 18;
+/// A line that is not in its form, or with a number past its range.
+pub const LINE: u8 = 19;
+/// Room for the output too short.
+pub const ROOM: u8 = 20;
 /// The highest number there is.
-pub const LAST: u8 = 18;
+pub const LAST: u8 = 20;

@@ -4,7 +4,7 @@ use crate::command::{Ask, Command};
 use crate::number;
 use crate::report::Numbers;
 use crate::row::{Row, STORE_BYTES};
-use crate::sizes::{Sizes, HEADER_BYTES, MAX_LIST};
+use crate::sizes::{Sizes, HEADER_BYTES};
 use crate::state::State;
 use crate::step::Actor;
 use crate::world::{World, MAX_NEWS, MAX_ROWS};
@@ -74,13 +74,7 @@ pub fn check_store(store: &[u8]) -> Result<(), u8> {
 /// The checks on store, length and header, and the header's world.
 fn open_list(store: &[u8], list: &[u8]) -> Result<World, u8> {
     check_store(store)?;
-    if list.len() > MAX_LIST {
-        return Err(number::LIST_LONG);
-    }
-    let header = list.first_chunk::<HEADER_BYTES>();
-    let sizes = Sizes::of_header(*header.ok_or(number::LIST_SHORT)?);
-    sizes.check()?;
-    Ok(World::fresh(sizes))
+    Sizes::of_list(list).map(World::fresh)
 }
 
 /// Plays command after command, to the list's end or a refusal.

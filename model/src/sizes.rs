@@ -42,6 +42,17 @@ impl Sizes {
         Sizes::new(n.into(), commit.into(), abort.into(), willing)
     }
 
+    /// Reads the header of a list. Checks 1 to 5, in order.
+    pub fn of_list(list: &[u8]) -> Result<Sizes, u8> {
+        if list.len() > MAX_LIST {
+            return Err(number::LIST_LONG);
+        }
+        let header = list.first_chunk().ok_or(number::LIST_SHORT)?;
+        let sizes = Sizes::of_header(*header);
+        sizes.check()?;
+        Ok(sizes)
+    }
+
     /// The header that says these sizes.
     pub fn header(&self) -> [u8; HEADER_BYTES] {
         let [n, commit, abort] = [self.n, self.commit_quorum, self.abort_quorum].map(|n| n as u8);

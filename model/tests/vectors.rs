@@ -1,14 +1,23 @@
-//! The vectors: lists, and what the player must print for each.
+//! The vectors: lists, and what the player must print for each; lists and
+//! texts, and what must come of writing or reading each as lines.
 
 use std::fs;
 use std::io::Write;
 use std::path::{Path, PathBuf};
 use std::process::{Command, Stdio};
 
-/// The repository's vectors, a folder for the base and for each request, and how
-/// many there are at the least.
+use model::{read_lines, write_lines, Output};
+
+/// The repository's vectors, a folder for the base and for each request.
 const FOLDER: &str = concat!(env!("CARGO_MANIFEST_DIR"), "/../tests/vectors");
+
+/// How many of each sort there are at the least.
 const LEAST: usize = 71;
+const LEAST_WRITTEN: usize = 60;
+const LEAST_READ: usize = 80;
+
+/// A path, an input, and what must come of it.
+type Vector = (String, Vec<u8>, Vec<u8>);
 
 /// What a folder holds.
 fn entries(folder: &Path) -> impl Iterator<Item = PathBuf> {
@@ -16,20 +25,46 @@ fn entries(folder: &Path) -> impl Iterator<Item = PathBuf> {
     entries.map(|entry| entry.unwrap().path())
 }
 
-/// Every list, with its path and what is to be printed.
-fn vectors() -> Vec<(String, Vec<u8>, Vec<u8>)> {
-    let mut all: Vec<_> = entries(Path::new(FOLDER))
-        .flat_map(|folder| entries(&folder))
-        .filter(|path| path.extension().is_some_and(|ending| ending == "bin"))
+/// The inputs among these paths, those with this ending, in order.
+fn inputs(paths: impl Iterator<Item = PathBuf>, ending: &str, least: usize) -> Vec<Vector> {
+    let mut all: Vec<Vector> = paths
+        .filter(|path| path.extension().is_some_and(|found| found == ending))
         .map(|path| {
-            let list = fs::read(&path).unwrap();
+            let input = fs::read(&path).unwrap();
             let wanted = fs::read(path.with_extension("out")).unwrap();
-            (path.display().to_string(), list, wanted)
+            (path.display().to_string(), input, wanted)
         })
         .collect();
     all.sort();
-    assert!(all.len() >= LEAST, "only {} vectors", all.len());
+    assert!(all.len() >= least, "only {} vectors", all.len());
     all
+}
+
+/// Every list that is played: those that stand in a request's folder itself.
+fn vectors() -> Vec<Vector> {
+    let folders = entries(Path::new(FOLDER));
+    inputs(folders.flat_map(|folder| entries(&folder)), "bin", LEAST)
+}
+
+/// The vectors of one of the two calls on lines.
+fn line_vectors(call: &str, ending: &str, least: usize) -> Vec<Vector> {
+    let folder = Path::new(FOLDER).join("03-lines").join(call);
+    inputs(entries(&folder), ending, least)
+}
+
+/// The output of a call on lines, or the line that says its refusal. The buffer
+/// has the room that is wanted and no more.
+fn output_or_refusal(
+    call: impl Fn(&[u8], &mut [u8]) -> Output,
+    input: &[u8],
+    room: usize,
+) -> Vec<u8> {
+    let mut buffer = vec![0; room];
+    let answer = call(input, &mut buffer);
+    match answer.number {
+        0 => buffer[..answer.length].to_vec(),
+        number => format!("refused {number} at {}\n", answer.place).into(),
+    }
 }
 
 /// What the player itself prints.
@@ -57,6 +92,28 @@ fn the_model_prints_every_vector() {
 fn the_player_prints_every_vector() {
     for (name, list, wanted) in vectors() {
         assert!(run_player(&list) == wanted, "vector {name}");
+    }
+}
+
+#[test]
+fn the_model_writes_every_vector() {
+    for (name, list, wanted) in line_vectors("write", "bin", LEAST_WRITTEN) {
+        let text = output_or_refusal(write_lines, &list, wanted.len());
+        assert!(text == wanted, "vector {name}");
+        if !text.starts_with(b"refused") {
+            assert!(output_or_refusal(read_lines, &text, list.len()) == list);
+        }
+    }
+}
+
+#[test]
+fn the_model_reads_every_vector() {
+    for (name, text, wanted) in line_vectors("read", "txt", LEAST_READ) {
+        let list = output_or_refusal(read_lines, &text, wanted.len());
+        assert!(list == wanted, "vector {name}");
+        if !list.starts_with(b"refused") {
+            assert!(output_or_refusal(write_lines, &list, text.len()) == text);
+        }
     }
 }
 

@@ -1,7 +1,7 @@
 /* Cases just inside and just outside of every number, as tables: what the tables share.
  *
  * What a case must give is worked out by hand from documents 01 and 02, and it is played through the C functions. A refused command or report must
- * leave every buffer as it was. A difference is told with the case's name, and ends the program.
+ * leave every buffer as it was, and refused lines their buffer. A difference is told with the case's name, and ends the program.
  */
 #ifndef CASES_H
 #define CASES_H
@@ -15,6 +15,9 @@ void row_cases(void);
 void world_cases(void);
 void news_cases(void);
 void report_cases(void);
+void line_cases(void);
+void bad_line_cases(void);
+void long_line_cases(void);
 
 /* The case that is played from here on; and what was got of it. */
 void begin(const char *name);

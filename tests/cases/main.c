@@ -63,6 +63,9 @@ int main(void)
     world_cases();
     news_cases();
     report_cases();
-    printf("cases: %u cases around the numbers 1 to 18\n", cases);
+    line_cases();
+    bad_line_cases();
+    long_line_cases();
+    printf("cases: %u cases around the numbers 1 to 20\n", cases);
     return 0;
 }

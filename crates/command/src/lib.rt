@@ -3,6 +3,7 @@ mod reader;
 mod view;
 
 pub use reader::refusal_of;
+pub use reader::target_command;
 pub use view::View;
 pub use view::byte_at;
 pub use view::byte_in;
@@ -28,13 +29,13 @@ pub enum Command {
     Recover(Target),
 }
 
-// A command, and the place after its operands.
+// A command, and the place after it.
 pub struct Parsed {
     pub command: Command,
     pub next: usize,
 }
 
-// A refusal's number, and the place of the command byte.
+// A refusal's number, and its place: of the command byte in a list, of the line's first byte in a text.
 pub struct Refusal {
     pub number: u8,
     pub place: usize,

@@ -12,7 +12,7 @@ use crate::Refusal;
 use crate::Target;
 use word::wide;
 
-// The byte at a place of a list; 0 past its end.
+// The byte at a place of a list or a text; 0 past its end.
 pub fn byte_of(list: &[u8], at: usize) -> usize
     ensures { λ r. ⌜ (r ≡ getD (now (list .entry)) at 0) × (r < 256) ⌝ }
 {
@@ -66,7 +66,7 @@ fn read_delivery(list: &[u8], at: usize) -> Reading
 }
 
 // The command of a byte of 3 to 5, on its site.
-fn target_command(byte: u8, target: Target) -> Command
+pub fn target_command(byte: u8, target: Target) -> Command
     ensures { λ r. ⌜ r ≡ targetCommand byte target ⌝ }
 {
     if byte == 3 {

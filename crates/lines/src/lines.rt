@@ -96,7 +96,7 @@ pub fn put_sites(buffer: &mut [u8], at: usize, world: World) -> usize
 
 // The end place, or the refusal with its place.
 pub fn put_last(buffer: &mut [u8], at: usize, number: usize, place: usize) -> usize
-    requires { ⌜ (number ≤ 18) × (place ≤ 32768) × (at + 25 ≤ length (now buffer)) ⌝ }
+    requires { ⌜ (number < 1000000) × (place < 1000000) × (at + 25 ≤ length (now buffer)) ⌝ }
     ensures { λ r. ⌜ Written (now (buffer .entry)) at (lastLine number place) (now (buffer .exit)) r ⌝ }
     ensures { λ r. ⌜ r ≤ at + 25 ⌝ }
 {

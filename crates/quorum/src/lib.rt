@@ -1,9 +1,9 @@
 // The calls offered to C, on byte slices and numbers. docs/LAYOUT.md has the bytes; include/quorum.h says how to call.
 ghost use mathlib.Core.Path.{_≡_};
+ghost use Rattle.spelling.specs.WriteRead.{writeLines, readLines};
+ghost use Rattle.line_calls.specs.LineCalls.{linesCall};
 ghost use Rattle.calls.specs.Calls.{listCall, commandCall, reportCall};
 use calls::RESULT_BYTES;
-use calls::number_of;
-use calls::unfit_number;
 use world::World;
 
 // A whole list.
@@ -19,18 +19,7 @@ pub extern "C" fn qc_play_list(
     ensures { λ _. ⌜ now (world .exit) ≡ listCall (now (list .entry)) (now (store .entry)) (now (world .entry)) (now (result .entry)) .world ⌝ }
     ensures { λ _. ⌜ now (result .exit) ≡ listCall (now (list .entry)) (now (store .entry)) (now (world .entry)) (now (result .entry)) .result ⌝ }
 {
-    if world.len() != layout::WORLD_BYTES {
-        return unfit_number(store.len());
-    }
-    if result.len() != RESULT_BYTES {
-        return unfit_number(store.len());
-    }
-    let played = list::play_list(store, list);
-    let after = played.world;
-    encode::put_world(world, after);
-    encode::put_number(result, 0, 4, played.events);
-    encode::put_number(result, 4, 4, played.place);
-    number_of(played.number)
+    crossing::list_call(list, store, world, result)
 }
 
 // One command.
@@ -76,20 +65,25 @@ pub extern "C" fn qc_report(
     ensures { λ _. ⌜ now (buffer .exit) ≡ reportCall (now (world .entry)) events number place (now (buffer .entry)) (now (result .entry)) .buffer ⌝ }
     ensures { λ _. ⌜ now (result .exit) ≡ reportCall (now (world .entry)) events number place (now (buffer .entry)) (now (result .entry)) .result ⌝ }
 {
-    if result.len() != RESULT_BYTES {
-        return 17;
-    }
-    if !inside::in_layout(world) {
-        return 17;
-    }
-    if report::LAST_NUMBER < number as usize {
-        return 17;
-    }
-    let before = decode::world_at(world);
-    let reported = report::write_report(before, events, number as u8, place, buffer);
-    if reported.number != 0 {
-        return number_of(reported.number);
-    }
-    encode::put_number(result, 0, 8, reported.length);
-    0
+    crossing::report_call(world, events, number, place, buffer, result)
+}
+
+// A list as lines.
+#[no_mangle]
+pub extern "C" fn qc_write_lines(list: &[u8], buffer: &mut [u8], result: &mut [u8]) -> u32
+    ensures { λ r. ⌜ r ≡ linesCall writeLines (now (list .entry)) (now (buffer .entry)) (now (result .entry)) .number ⌝ }
+    ensures { λ _. ⌜ now (buffer .exit) ≡ linesCall writeLines (now (list .entry)) (now (buffer .entry)) (now (result .entry)) .buffer ⌝ }
+    ensures { λ _. ⌜ now (result .exit) ≡ linesCall writeLines (now (list .entry)) (now (buffer .entry)) (now (result .entry)) .result ⌝ }
+{
+    line_calls::write_call(list, buffer, result)
+}
+
+// Lines as a list.
+#[no_mangle]
+pub extern "C" fn qc_read_lines(text: &[u8], buffer: &mut [u8], result: &mut [u8]) -> u32
+    ensures { λ r. ⌜ r ≡ linesCall readLines (now (text .entry)) (now (buffer .entry)) (now (result .entry)) .number ⌝ }
+    ensures { λ _. ⌜ now (buffer .exit) ≡ linesCall readLines (now (text .entry)) (now (buffer .entry)) (now (result .entry)) .buffer ⌝ }
+    ensures { λ _. ⌜ now (result .exit) ≡ linesCall readLines (now (text .entry)) (now (buffer .entry)) (now (result .entry)) .result ⌝ }
+{
+    line_calls::read_call(text, buffer, result)
 }

@@ -3,8 +3,8 @@ mod write;
 
 pub use write::write_report;
 
-// The last number of document 01's table.
-pub const LAST_NUMBER: usize = 18;
+// The last stop number that a report may show.
+pub const LAST_NUMBER: usize = 20;
 
 // A report call's answer beside the buffer: number (0: accepted) and the text's length.
 pub struct Reported {

@@ -1,3 +1,4 @@
 pub mod Written
 pub mod TextLaws
 pub mod DecimalLaws
+pub mod DigitLaws

@@ -1,4 +1,5 @@
 // Words and decimal numbers appended to a lent buffer.
+ghost use mathlib.Core.Path.{_≡_};
 ghost use Prim.Native.Nat.{_+_, _<_, _≤_};
 ghost use mathlib.Core.List.{[], _∷_, _++_};
 ghost use lib.ListN.{length};
@@ -53,6 +54,24 @@ pub fn put_decimal(buffer: &mut [u8], at: usize, x: usize) -> usize
     let at = put_digit(buffer, at, 100, x);
     let at = put_digit(buffer, at, 10, x);
     put_byte(buffer, at, (48 + x % 10) as u8)
+}
+
+// How many bytes the digit at a unit has.
+fn digit_length(unit: usize, x: usize) -> usize
+    ensures { λ r. ⌜ (r ≡ length (digitAt unit x)) × (r ≤ 1) ⌝ }
+{
+    if unit <= x {
+        return 1;
+    }
+    0
+}
+
+// How many bytes the number has in decimal.
+pub fn decimal_length(x: usize) -> usize
+    ensures { λ r. ⌜ (r ≡ length (decimal x)) × (r ≤ 6) ⌝ }
+{
+    let high = digit_length(100000, x) + digit_length(10000, x) + digit_length(1000, x);
+    high + digit_length(100, x) + digit_length(10, x) + 1
 }
 
 // A word, and the number after it.

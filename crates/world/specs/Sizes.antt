@@ -5,7 +5,7 @@ use Rattle.choice.specs.Choice.{pick}
 use Rattle.site.specs.declared.CommitQuorum.{CommitQuorum}
 use Rattle.site.specs.declared.AbortQuorum.{AbortQuorum}
 
--- the limits: sites, rows, news, bytes of a list, of the store of rows and of the report buffer
+-- the limits: sites, rows, news, bytes of a list, of a list's text, of the store of rows and of the report buffer
 abbrev pub maxSites : ℕ
 maxSites = 16
 
@@ -17,6 +17,9 @@ maxNews = 491520
 
 abbrev pub listBytes : ℕ
 listBytes = 32768
+
+abbrev pub textBytes : ℕ
+textBytes = 196620
 
 abbrev pub storeBytes : ℕ
 storeBytes = 20480

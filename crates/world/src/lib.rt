@@ -24,6 +24,8 @@ impl World {
 
     pub const LIST_BYTES: usize = 32768;
 
+    pub const TEXT_BYTES: usize = 196620;
+
     pub const STORE_BYTES: usize = 20480;
 
     pub const REPORT_BYTES: usize = 1024;

@@ -7,6 +7,9 @@
 //! - One command: every command of a list as a call of its own on the world's
 //!   bytes, from the fresh world on. Both read the bytes, check the world, play
 //!   the command and write the bytes.
+//! - Lines: lists written as lines and texts read back, short ones and the longest
+//!   there is, each in one call on both sides; how many bytes of text a second, and
+//!   how long one text takes.
 //!
 //! Run it for release: cargo run --release --bin bench
 
@@ -18,12 +21,13 @@ mod ffi;
 use std::hint::black_box;
 use std::time::{Duration, Instant};
 
-use model::calls::{Calls, Model, RESULT_BYTES};
-use model::generate::{duel, quiet_day};
+use model::calls::{Calls, Model, LINES_RESULT_BYTES, RESULT_BYTES};
+use model::generate::{duel, list_of, quiet_day, Rng};
 use model::layout::{encode, WORLD_BYTES};
+use model::lines::list_spelled;
 use model::row::STORE_BYTES;
 use model::sizes::HEADER_BYTES;
-use model::{play_list, Ask, Sizes, World};
+use model::{play_list, Ask, Command, Sizes, World};
 
 use ffi::Library;
 
@@ -33,6 +37,11 @@ const TURNS: usize = 7;
 const TURN: Duration = Duration::from_millis(60);
 const SEED: u64 = 4;
 const GROWTH: [usize; 6] = [1_000, 2_000, 4_000, 8_000, 16_000, 32_768];
+/// Lengths of texts, each about four times the one before; the last is the most
+/// that an accepted text has.
+const TEXTS: [usize; 3] = [12_288, 49_152, 196_620];
+/// Room for every text and every list.
+const ROOM: usize = 200_000;
 
 /// A name, and the list that is played.
 type Workload = (String, Vec<u8>);
@@ -41,6 +50,21 @@ struct Buffers {
     store: Vec<u8>,
     world: Vec<u8>,
     result: Vec<u8>,
+    lines: Vec<u8>,
+    /// The result of a call on lines.
+    output: Vec<u8>,
+}
+
+/// What each side does in a second.
+struct Speeds {
+    library: f64,
+    model: f64,
+}
+
+impl Speeds {
+    fn ratio(&self) -> f64 {
+        self.library / self.model
+    }
 }
 
 fn main() {
@@ -49,8 +73,10 @@ fn main() {
     );
     println!("best of {TURNS} turns of at least {} ms", TURN.as_millis());
     let by_command = least(&days(), "one command: ", run_commands);
+    let lines = run_lines();
     let whole = least(&[days(), growth()].concat(), "", run_list);
     println!("one-command ratio {by_command:.2}");
+    println!("lines ratio {lines:.2}");
     println!("ratio {whole:.2}");
 }
 
@@ -104,33 +130,45 @@ fn in_turns(
     by_library: impl Fn(&mut Buffers) -> usize,
     by_model: impl Fn(&mut Buffers) -> usize,
 ) -> f64 {
-    let mut buffers = Buffers {
-        store: vec![0; STORE_BYTES],
-        world: vec![0; WORLD_BYTES],
-        result: vec![0; RESULT_BYTES],
-    };
-    let events = by_library(&mut buffers);
-    assert_eq!(events, by_model(&mut buffers), "{name}");
-    let (mut library, mut model) = (0.0_f64, 0.0_f64);
-    for _ in 0..TURNS {
-        library = library.max(speed(|| by_library(&mut buffers)));
-        model = model.max(speed(|| by_model(&mut buffers)));
-    }
-    let ratio = library / model;
+    let (events, speeds) = speeds(name, by_library, by_model);
+    let (library, model, ratio) = (speeds.library, speeds.model, speeds.ratio());
     println!(
         "{name}: {bytes} bytes, {events} events; library {library:.0} events/s, model {model:.0} events/s; {ratio:.2}"
     );
     ratio
 }
 
-/// Events a second over one turn.
+/// How much is done at once, and the best speed of each side.
+fn speeds(
+    name: &str,
+    by_library: impl Fn(&mut Buffers) -> usize,
+    by_model: impl Fn(&mut Buffers) -> usize,
+) -> (usize, Speeds) {
+    let mut buffers = Buffers {
+        store: vec![0; STORE_BYTES],
+        world: vec![0; WORLD_BYTES],
+        result: vec![0; RESULT_BYTES],
+        lines: vec![0; ROOM],
+        output: vec![0; LINES_RESULT_BYTES],
+    };
+    let done = by_library(&mut buffers);
+    assert_eq!(done, by_model(&mut buffers), "{name}");
+    let (mut library, mut model) = (0.0_f64, 0.0_f64);
+    for _ in 0..TURNS {
+        library = library.max(speed(|| by_library(&mut buffers)));
+        model = model.max(speed(|| by_model(&mut buffers)));
+    }
+    (done, Speeds { library, model })
+}
+
+/// How much is done in a second, over one turn.
 fn speed(mut play: impl FnMut() -> usize) -> f64 {
     let start = Instant::now();
-    let mut events = 0;
+    let mut done = 0;
     while start.elapsed() < TURN {
-        events += play();
+        done += play();
     }
-    events as f64 / start.elapsed().as_secs_f64()
+    done as f64 / start.elapsed().as_secs_f64()
 }
 
 fn list_by_library(list: &[u8], buffers: &mut Buffers) -> usize {
@@ -138,6 +176,7 @@ fn list_by_library(list: &[u8], buffers: &mut Buffers) -> usize {
         store,
         world,
         result,
+        ..
     } = buffers;
     let number = Library.play_list(black_box(list), store, world, result);
     assert_eq!(number, 0);
@@ -162,6 +201,7 @@ fn commands_by(side: &impl Calls, list: &[u8], fresh: &[u8], buffers: &mut Buffe
         store,
         world,
         result,
+        ..
     } = buffers;
     world.copy_from_slice(fresh);
     let (mut at, mut calls) = (HEADER_BYTES, 0);
@@ -175,4 +215,95 @@ fn commands_by(side: &impl Calls, list: &[u8], fresh: &[u8], buffers: &mut Buffe
     black_box(&store);
     black_box(&world);
     calls
+}
+
+/// Lists written as lines, and texts read; gives the smallest ratio.
+fn run_lines() -> f64 {
+    let texts = TEXTS.map(sized_text);
+    let mixed = run_written("lines written, mixed commands", &mixed_list());
+    let written = texts.iter().map(|text| {
+        let list = list_spelled(text).expect("a text in the form");
+        run_written("lines written, growth", &list)
+    });
+    let read = texts
+        .iter()
+        .map(|text| run_read("lines read, growth", text));
+    written.chain(read).fold(mixed, f64::min)
+}
+
+fn run_written(name: &str, list: &[u8]) -> f64 {
+    line_turns(name, |side, buffers| write_by(side, list, buffers))
+}
+
+fn run_read(name: &str, text: &[u8]) -> f64 {
+    line_turns(name, |side, buffers| read_by(side, text, buffers))
+}
+
+/// A list of 32,768 bytes with as many commands of each sort, but for some
+/// starts at its end.
+fn mixed_list() -> Vec<u8> {
+    let mut rng = Rng::new(SEED);
+    let mut commands = Vec::new();
+    for _ in 0..2_978 {
+        let row = rng.below(1_024);
+        let sites = [(); 4].map(|()| rng.below(16));
+        commands.extend([
+            Command::Start,
+            Command::deliver(row, sites[0]),
+            Command::Timeout(sites[1]),
+            Command::Crash(sites[2]),
+            Command::Recover(sites[3]),
+        ]);
+    }
+    commands.extend([Command::Start; 5]);
+    let list = list_of(Sizes::new(16, 9, 9, 65_535), &commands);
+    assert_eq!(list.len(), 32_768);
+    list
+}
+
+/// A text of so many bytes, a multiple of six. After its first line of 42 it has
+/// rounds of three commands, 30 bytes each, and starts for what is left.
+fn sized_text(bytes: usize) -> Vec<u8> {
+    let mut rng = Rng::new(SEED);
+    let mut text = String::from("sites 16 commit 15 abort 15 willing 65535\n");
+    for _ in 0..(bytes - 42) / 30 {
+        let sites = [(); 2].map(|()| rng.between(100, 255));
+        let [timeout, recover] = sites;
+        text += &format!("start\ntimeout {timeout}\nrecover {recover}\n");
+    }
+    text += &"start\n".repeat((bytes - 42) % 30 / 6);
+    assert_eq!(text.len(), bytes);
+    text.into()
+}
+
+/// One call on both sides; prints, and gives library over model.
+fn line_turns(name: &str, call: impl Fn(&dyn Calls, &mut Buffers) -> usize) -> f64 {
+    let by_library = |buffers: &mut Buffers| call(&Library, buffers);
+    let by_model = |buffers: &mut Buffers| call(&Model, buffers);
+    let (bytes, speeds) = speeds(name, by_library, by_model);
+    let (library, model, ratio) = (speeds.library, speeds.model, speeds.ratio());
+    let [one, other] = [library, model].map(|speed| 1e6 * bytes as f64 / speed);
+    println!(
+        "{name}: {bytes} bytes of text; library {library:.0} bytes/s, model {model:.0} bytes/s; {ratio:.2}; one text takes {one:.1} and {other:.1} microseconds"
+    );
+    ratio
+}
+
+/// Writes a list; gives the length of its text.
+fn write_by(side: &dyn Calls, list: &[u8], buffers: &mut Buffers) -> usize {
+    let Buffers { lines, output, .. } = buffers;
+    let number = side.write_lines(black_box(list), lines, output);
+    assert_eq!(number, 0);
+    black_box(&lines);
+    let (length, _) = output.split_at(8);
+    u64::from_le_bytes(length.try_into().expect("8 bytes")) as usize
+}
+
+/// Reads a text; gives its own length.
+fn read_by(side: &dyn Calls, text: &[u8], buffers: &mut Buffers) -> usize {
+    let Buffers { lines, output, .. } = buffers;
+    let number = side.read_lines(black_box(text), lines, output);
+    assert_eq!(number, 0);
+    black_box(&lines);
+    text.len()
 }

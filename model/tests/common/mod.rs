@@ -2,6 +2,9 @@
 
 #![allow(dead_code)] // No test needs all of it.
 
+pub mod bad_lines;
+pub mod bad_lists;
+
 use model::generate::list_of;
 use model::{Command, GroupRecord, Role, Side, Sizes, State, Vector, World};
 

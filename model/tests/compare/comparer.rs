@@ -268,12 +268,14 @@ impl<'a> Comparer<'a> {
         number
     }
 
-    /// Bytes that are not the same from call to call.
     fn pattern(&self, size: usize) -> Vec<u8> {
-        (0..size)
-            .map(|at| (at * 7 + self.salt * 13 + 1) as u8)
-            .collect()
+        pattern(size, self.salt)
     }
+}
+
+/// Bytes that are not the same from call to call, if the salt is not.
+pub fn pattern(size: usize, salt: usize) -> Vec<u8> {
+    (0..size).map(|at| (at * 7 + salt * 13 + 1) as u8).collect()
 }
 
 /// The fresh world of a list's header, as bytes.
@@ -283,17 +285,17 @@ fn fresh(list: &[u8]) -> Vec<u8> {
 }
 
 /// A number with its low byte first.
-fn value(bytes: &[u8]) -> usize {
+pub fn value(bytes: &[u8]) -> usize {
     let from_high = bytes.iter().rev();
     from_high.fold(0, |sum, &byte| sum << 8 | usize::from(byte))
 }
 
 /// A number, and the buffers of a call.
-type Answer<const N: usize> = (u32, [Vec<u8>; N]);
+pub type Answer<const N: usize> = (u32, [Vec<u8>; N]);
 
 /// The answer that both sides gave, or the first byte of each buffer that
 /// differs.
-fn same<const N: usize>(
+pub fn same<const N: usize>(
     call: &str,
     names: [&str; N],
     library: Answer<N>,
@@ -318,7 +320,7 @@ fn same<const N: usize>(
 }
 
 /// Buffers as they were.
-fn untouched(after: &[Vec<u8>], before: &[Vec<u8>], number: u32) -> Agreed {
+pub fn untouched(after: &[Vec<u8>], before: &[Vec<u8>], number: u32) -> Agreed {
     if after != before {
         return Err(format!("{number} touched a buffer\n"));
     }
@@ -334,7 +336,7 @@ fn ends_with_text([buffer, result]: &[Vec<u8>; 2], before: &[Vec<u8>; 2]) -> Agr
     Ok(0)
 }
 
-fn hex(bytes: &[u8]) -> String {
+pub fn hex(bytes: &[u8]) -> String {
     let bytes: Vec<String> = bytes.iter().map(|byte| format!("{byte:02x}")).collect();
     bytes.join(" ")
 }

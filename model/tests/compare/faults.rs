@@ -54,9 +54,11 @@ pub enum Fault {
     AsksNewsBeforeRoom,
     /// A world at the limit is refused with 17.
     FearsMuchNews,
+    /// A report of a stop by 19 or 20 is refused with 17.
+    FearsLineNumbers,
 }
 
-pub const FAULTS: [Fault; 20] = [
+pub const FAULTS: [Fault; 21] = [
     Fault::CountsAllEntries,
     Fault::TakesThreeForPrepare,
     Fault::KeepsVector,
@@ -77,6 +79,7 @@ pub const FAULTS: [Fault; 20] = [
     Fault::PassesLimit,
     Fault::AsksNewsBeforeRoom,
     Fault::FearsMuchNews,
+    Fault::FearsLineNumbers,
 ];
 
 pub struct Faulty(pub Fault);
@@ -111,7 +114,12 @@ impl Rules for Faulty {
     }
 
     fn text(&self, world: &World, numbers: Numbers, buffer: &mut [u8]) -> Result<usize, u8> {
-        if self.0 == Fault::FearsMuchNews && world.news == MAX_NEWS {
+        let is_refused = match self.0 {
+            Fault::FearsMuchNews => world.news == MAX_NEWS,
+            Fault::FearsLineNumbers => numbers.stop > number::BUFFER.into(),
+            _ => false,
+        };
+        if is_refused {
             return Err(number::WORLD);
         }
         let size = Model.text(world, numbers, buffer)?;

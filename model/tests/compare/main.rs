@@ -11,6 +11,7 @@ mod directed;
 mod faults;
 #[path = "../../ffi/mod.rs"]
 mod ffi;
+mod lines;
 
 use std::time::Instant;
 
@@ -236,7 +237,7 @@ fn generated_reports(both: &mut Comparer, count: usize) -> Result<(), String> {
         let size = 1_022 + at % 5;
         both.report(&encode(&played.world), numbers, size, RESULT_BYTES)?;
         if at % 4 == 0 {
-            let stop = at as u32 / 4 % 21;
+            let stop = at as u32 / 4 % 23;
             let numbers = Numbers { stop, ..numbers };
             both.report_of(&from.next_call(), numbers, size)?;
         }
@@ -268,7 +269,8 @@ fn library_and_model_agree() {
     }
     print(&both);
     println!("no difference in {:.1} s", start.elapsed().as_secs_f64());
-    for number in 0..=number::LAST.into() {
+    // The numbers after this one are those of lines.
+    for number in 0..=number::BUFFER.into() {
         assert!(both.numbers.contains_key(&number), "{number} never seen");
     }
     for name in [CLAUSES, RECOVERIES, NEWS].concat() {

@@ -14,7 +14,7 @@ use Rattle.world.specs.Valid.{validWorld}
 use Rattle.play.specs.Commands.{oneCommand}
 use Rattle.safety.specs.laws.Unchanging.{refused-changes-nothing}
 use Rattle.list.specs.Play.{playList}
-use Rattle.report.specs.Report.{reportValid, untouched, report}
+use Rattle.report.specs.Report.{lastNumber, reportValid, untouched, report}
 use Rattle.report.specs.laws.ReportLaws.{report-refused}
 use Rattle.layout.specs.Numbers.{putNumber}
 use Rattle.layout.specs.Layout.{worldBytes, putWorld, worldAt, inLayout}
@@ -87,11 +87,11 @@ module _ (world store list : List ℕ) (at : ℕ) (result : List ℕ) where
 
 -- the report
 
--- a stop number above 18 is 17
-above-18 : (w : World) (events number place : ℕ) → 18 < number → reportValid w events number place ≡ false
+-- a stop number above the last is 17
+above-last : (w : World) (events number place : ℕ) → lastNumber < number → reportValid w events number place ≡ false
 unfolding reportValid
-above-18 w events number place h =
-    rw (lt-leb number 18 h) (none (validWorld w) (leb events 32768) (leb place 32768))
+above-last w events number place h =
+    rw (lt-leb number lastNumber h) (none (validWorld w) (leb events 32768) (leb place 32768))
   where
     none : (a b c : Bool) → both a (both b (both c false)) ≡ false
     none false b c = refl
@@ -124,12 +124,12 @@ module _ (world : List ℕ) (events number place : ℕ) (buffer result : List �
     report-17-world outside = rw (eq-eqb (length result) resultBytes eight, outside)
 
     pub report-17-number :
-        inLayout world ≡ true → 18 < number →
+        inLayout world ≡ true → lastNumber < number →
         reportCall world events number place buffer result ≡ leaveBuffer 17 buffer result
     unfolding reportCall leaveReport untouched
     report-17-number inside above =
         rw
-        (eq-eqb (length result) resultBytes eight, inside, report-refused (worldAt world) events number place buffer (above-18 (worldAt world) events number place above))
+        (eq-eqb (length result) resultBytes eight, inside, report-refused (worldAt world) events number place buffer (above-last (worldAt world) events number place above))
 
     pub report-writes :
         inLayout world ≡ true →

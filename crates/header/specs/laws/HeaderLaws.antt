@@ -10,6 +10,7 @@ use borrow.Author.Tests.{ltb-false, leb-true}
 use Rattle.choice.specs.Choice.{pick}
 use Rattle.choice.specs.laws.ChoiceLaws.{pick-ind}
 use Rattle.world.specs.Sizes.{listBytes, quorumsNumber, sizesNumber}
+use Rattle.header.specs.declared.Header.{Header}
 use Rattle.header.specs.Headers.{headerOf, headerSizes, headerNumber}
 
 -- a header that none of 1 to 5 refuses
@@ -37,6 +38,10 @@ headed list =
 small-pick : (t : Bool) (a b : ℕ) → leb a 5 ≡ true → leb b 5 ≡ true → leb (pick t a b) 5 ≡ true
 small-pick true a b p q = p
 small-pick false a b p q = q
+
+pub sizes-small : (h : Header) → headerSizes h ≤ 5
+unfolding headerSizes sizesNumber quorumsNumber
+sizes-small h = leb-true (headerSizes h) 5 (search small-pick depth 10)
 
 pub header-small : (list : List ℕ) → headerNumber list ≤ 5
 unfolding headerNumber headerSizes sizesNumber quorumsNumber

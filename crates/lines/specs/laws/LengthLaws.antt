@@ -1,5 +1,5 @@
 -- How long each line of a valid world can be.
-use Prim.Native.Nat.{ℕ, zero, suc, _+_, _*_, _-_, _≤_}
+use Prim.Native.Nat.{ℕ, zero, suc, _+_, _*_, _-_, _<_, _≤_}
 use mathlib.Core.Bool.{Bool, true, false}
 use mathlib.Core.List.{List}
 use mathlib.Core.Path.{_≡_, refl}
@@ -94,7 +94,7 @@ sites-length (suc k) w l h =
     (λ q. omega (arith, sites-length k w (omega arith) h, site-length k (w .n) (siteOf w k) h, decimal-below 1 k (omega arith) (omega arith))))
 
 -- a number has at most two digits, a place five
-pub last-length : (number place : ℕ) → number ≤ 18 → place ≤ 32768 → length (lastLine number place) ≤ 20
+pub last-length : (number place : ℕ) → number < 100 → place ≤ 32768 → length (lastLine number place) ≤ 20
 unfolding named text
 last-length number place h l =
     by-equal number 0

@@ -23,7 +23,7 @@ report-length w events number place e =
     let p : ReportParts w events number place = report-parts w events number place e in
     let small : w .n ≤ 16 = small-sizes w (p .world) .sites-small in
     simp length-append
-    (omega (arith, sizes-length w events (p .world) (p .events-fit), sites-length (w .n) w small small, last-length number place (p .number-known) (p .place-fits)))
+    (omega (arith, sizes-length w events (p .world) (p .events-fit), sites-length (w .n) w small small, last-length number place (omega (arith, p .number-known)) (p .place-fits)))
 
 pub longest-report : LongestReport
 unfolding downInGroup longestWorld text digitAt decimal named validEntry validEntries validVector stateBy stateOf codeOf zeroVector blankSite quorumsNumber sizesNumber siteOf validGroup validSite validSites validWorld sizesLine upWord roleWord stateWord prepareLetter groupLetter outcomeLetter logLetters codeDigits siteLine siteLines lastLine reportText reportValid

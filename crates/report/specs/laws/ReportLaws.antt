@@ -12,28 +12,28 @@ use Rattle.choice.specs.laws.ChoiceLaws.{both-first, both-second}
 use Rattle.text.specs.laws.Written.{Written}
 use Rattle.world.specs.declared.World.{World}
 use Rattle.world.specs.Valid.{validWorld}
-use Rattle.report.specs.Report.{Report, reportText, reportValid, untouched, report}
+use Rattle.report.specs.Report.{lastNumber, Report, reportText, reportValid, untouched, report}
 
 -- the four parts of 17
 pub record ReportParts (w : World) (events number place : ℕ) : Type 0 where
   pub world : validWorld w ≡ true
   pub events-fit : events ≤ 32768
   pub place-fits : place ≤ 32768
-  pub number-known : number ≤ 18
+  pub number-known : number ≤ lastNumber
 
 pub report-parts :
     (w : World) (events number place : ℕ) → reportValid w events number place ≡ true → ReportParts w events number place
 unfolding reportValid
 report-parts w events number place e =
-    let counts : both (leb events 32768) (both (leb place 32768) (leb number 18)) ≡ true =
-    both-second (validWorld w) (both (leb events 32768) (both (leb place 32768) (leb number 18))) e in
-    let last : both (leb place 32768) (leb number 18) ≡ true =
-    both-second (leb events 32768) (both (leb place 32768) (leb number 18)) counts in
+    let counts : both (leb events 32768) (both (leb place 32768) (leb number lastNumber)) ≡ true =
+    both-second (validWorld w) (both (leb events 32768) (both (leb place 32768) (leb number lastNumber))) e in
+    let last : both (leb place 32768) (leb number lastNumber) ≡ true =
+    both-second (leb events 32768) (both (leb place 32768) (leb number lastNumber)) counts in
     record {
-      world = both-first (validWorld w) (both (leb events 32768) (both (leb place 32768) (leb number 18))) e;
-      events-fit = leb-true events 32768 (both-first (leb events 32768) (both (leb place 32768) (leb number 18)) counts);
-      place-fits = leb-true place 32768 (both-first (leb place 32768) (leb number 18) last);
-      number-known = leb-true number 18 (both-second (leb place 32768) (leb number 18) last);
+      world = both-first (validWorld w) (both (leb events 32768) (both (leb place 32768) (leb number lastNumber))) e;
+      events-fit = leb-true events 32768 (both-first (leb events 32768) (both (leb place 32768) (leb number lastNumber)) counts);
+      place-fits = leb-true place 32768 (both-first (leb place 32768) (leb number lastNumber) last);
+      number-known = leb-true number lastNumber (both-second (leb place 32768) (leb number lastNumber) last);
     }
 
 -- 17

@@ -20,11 +20,11 @@ read-join v (d ∷ s) t = read-join (10 * v + (d - 48)) s t
 pub by-unit {ℓ} : {P : Type ℓ} (unit x : ℕ) → (unit ≤ x → P) → (x < unit → P) → P
 by-unit unit x f g = by-test (leb unit x) (λ e. f (leb-true unit x e)) (λ e. g (leb-false unit x e))
 
-shown : (unit x : ℕ) → unit ≤ x → digitAt unit x ≡ (48 + x / unit % 10) ∷ []
+pub shown : (unit x : ℕ) → unit ≤ x → digitAt unit x ≡ (48 + x / unit % 10) ∷ []
 unfolding digitAt
 shown unit x h = rw (le-leb unit x h)
 
-hidden : (unit x : ℕ) → x < unit → digitAt unit x ≡ []
+pub hidden : (unit x : ℕ) → x < unit → digitAt unit x ≡ []
 unfolding digitAt
 hidden unit x h = rw (lt-leb unit x h)
 
@@ -38,8 +38,11 @@ decimal-length x =
     simp length-append
     (omega (arith, digit-length 100000 x, digit-length 10000 x, digit-length 1000 x, digit-length 100 x, digit-length 10 x))
 
-no-digit : (unit x : ℕ) → x < unit → length (digitAt unit x) ≡ 0
+pub no-digit : (unit x : ℕ) → x < unit → length (digitAt unit x) ≡ 0
 no-digit unit x h = rw (hidden unit x h)
+
+pub a-digit : (unit x : ℕ) → unit ≤ x → length (digitAt unit x) ≡ 1
+a-digit unit x h = rw (shown unit x h)
 
 -- a number below ten to the k has at most k digits; nought has one
 pub decimal-below : (k x : ℕ) → 1 ≤ k → x < 10 ^ k → length (decimal x) ≤ k

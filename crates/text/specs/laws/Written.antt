@@ -4,8 +4,8 @@ use mathlib.Core.List.{List, [], _∷_, _++_}
 use mathlib.Core.Path.{_≡_, refl, ap, _∙_}
 use native.Mathlib.Numerals.{add-one}
 use native.Mathlib.Omega.{arith}
-use lib.ListN.{length, length-append, getD, take, set}
-use lib.Seq.{sets, take-all}
+use lib.ListN.{length, length-append, getD, take, drop, set}
+use lib.Seq.{sets, sets-eq, length-sets, take-all, take-append-seam}
 
 -- the piece from a place on, the bytes beyond it as they were; the place after it
 pub record Written (before : List ℕ) (at : ℕ) (piece after : List ℕ) (next : ℕ) : Type 0 where
@@ -56,3 +56,13 @@ pub word-whole :
     Written b at w m (at + k)
 word-whole b at w k h l e =
     record { holds = e ∙ ap (λ x. sets b at x) (take-all k w h); ends = omega arith }
+
+-- the buffer keeps its length
+pub written-length : {b a : List ℕ} {at n : ℕ} {s : List ℕ} → Written b at s a n → length a ≡ length b
+written-length {b} {a} {at} {n} {s} w = ap length (w .holds) ∙ length-sets b at s
+
+-- a piece written from the beginning stands there
+pub written-front : {b a : List ℕ} {n : ℕ} {s : List ℕ} → Written b 0 s a n → length s ≤ length b → take n a ≡ s
+written-front {b} {a} {n} {s} w room =
+    let e : n ≡ length s = omega (arith, w .ends) in
+    rw (e, w .holds, sets-eq s b 0 (omega arith)) (take-append-seam s (drop (0 + length s) b))

@@ -43,7 +43,7 @@ fn worlds() -> Vec<World> {
 
 /// Every stop number there is, and some beyond.
 fn stops(both: &mut Comparer, world: &World, size: usize) -> Done {
-    let beyond = [19, 20, 255, 256, 257, 256 + 18, 1 << 16, u32::MAX];
+    let beyond = [21, 22, 255, 256, 257, 256 + 20, 1 << 16, u32::MAX];
     for stop in (0..=number::LAST.into()).chain(beyond) {
         let refused = (stop > number::LAST.into()).then_some("17 stop number");
         check(both, world, Numbers { stop, ..SOME }, size, refused)?;

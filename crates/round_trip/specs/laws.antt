@@ -1,0 +1,10 @@
+pub mod ScriptBack
+pub mod Outputs
+pub mod Buffers
+pub mod Spells
+pub mod Accepted
+pub mod SpelledBytes
+pub mod RoundTrips
+pub mod BadLines
+pub mod Lengths
+pub mod Rooms

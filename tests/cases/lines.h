@@ -1,0 +1,40 @@
+/* What the cases of lists as lines share. */
+#ifndef LINES_H
+#define LINES_H
+
+#include "cases.h"
+
+/* Three sites, C = A = 2, all willing; its line has 35 bytes. */
+#define HEADER 3, 2, 2, 7, 0
+#define FIRST "sites 3 commit 2 abort 2 willing 7\n"
+
+/* A text written in a table, and its length. */
+#define TEXT(text) (const uint8_t *)(text), sizeof(text) - 1
+
+/* qc_write_lines or qc_read_lines. */
+typedef uint32_t lines_call(const uint8_t *, size_t, uint8_t *, size_t, uint8_t *, size_t);
+
+/* A list and its text: each call must make one of the other. */
+struct pair {
+    const char *name;
+    const uint8_t *text;
+    size_t text_length;
+    const uint8_t *list;
+    size_t list_length;
+};
+
+void both_ways(const struct pair *one);
+
+/* A list or text that is handed in, the answer, and the place: its length where it is accepted. */
+struct line_case {
+    const char *name;
+    const uint8_t *input;
+    size_t length;
+    unsigned answer;
+    uint64_t place;
+};
+
+void refuse(lines_call *call, const struct line_case *one);
+void refuse_all(lines_call *call, const struct line_case *table, size_t count);
+
+#endif
