@@ -6,7 +6,8 @@ use mathlib.Core.List.{List, [], _∷_, _++_}
 use lib.Dec.{ltb, eqb}
 use lib.ListN.{set}
 use Rattle.choice.specs.Choice.{pick, either}
-use Rattle.vector.specs.Vector.{count, merging, lowestOutcome}
+use Rattle.vector.specs.Vector.{count, lowestOutcome}
+use Rattle.merging.specs.Merging.{merging}
 use Rattle.row.specs.declared.Row.{Row}
 use Rattle.bits.specs.Bits.{onlySite, otherSites}
 use Rattle.row.specs.Rows.{noRow}

@@ -1,2 +1,1 @@
 pub mod VectorLaws
-pub mod News

@@ -1,7 +1,8 @@
 -- All lines of the table by one proof. Each definition that it computes through is named.
 use mathlib.Core.Path.{_≡_, refl}
 use Rattle.vector.specs.Codes.{level, isOutcome}
-use Rattle.vector.specs.Vector.{rises, mergeEntry, merge, risen, merging, entryWeight, weigh, siteWeight, count, firstOutcome, lowestOutcome, validEntry, validEntries, validVector}
+use Rattle.vector.specs.Vector.{entryWeight, weigh, siteWeight, count, firstOutcome, lowestOutcome, validEntry, validEntries, validVector}
+use Rattle.merging.specs.Merging.{rises, mergeEntry, merge, risen, merging}
 use Rattle.bits.specs.Bits.{hasBit, onlySite, otherSites}
 use Rattle.row.specs.Rows.{noRow, rowPlace, putHead, putRowAt, putRow, rowAt, getRow, codesKnown, rowKnown}
 use Rattle.code_bytes.specs.CodeBytes.{putCodes, codesFrom}

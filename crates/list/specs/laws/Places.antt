@@ -9,8 +9,8 @@ use lib.ListN.{length, getD}
 use borrow.Author.Tests.{ltb-true, leb-true, leb-false, eqb-false}
 use Rattle.choice.specs.Choice.{pick}
 use Rattle.choice.specs.laws.ChoiceLaws.{pick-ind}
-use Rattle.vector.specs.Vector.{merging}
-use Rattle.vector.specs.laws.News.{risen-others}
+use Rattle.merging.specs.Merging.{merging}
+use Rattle.merging.specs.laws.News.{risen-others}
 use Rattle.row.specs.declared.Row.{Row}
 use Rattle.row.specs.Rows.{getRow}
 use Rattle.rules.specs.Rules.{Move, start, timeout, bringing, deliver, crash, recover}

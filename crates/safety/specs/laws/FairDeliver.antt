@@ -9,7 +9,8 @@ use lib.ListN.{getD}
 use borrow.Author.Tests.{eqb-true}
 use Rattle.choice.specs.Choice.{pick}
 use Rattle.choice.specs.laws.ChoiceLaws.{pick-ind}
-use Rattle.vector.specs.Vector.{merge, lowestOutcome, merging}
+use Rattle.vector.specs.Vector.{lowestOutcome}
+use Rattle.merging.specs.Merging.{merge, merging}
 use Rattle.row.specs.declared.Row.{Row}
 use Rattle.bits.specs.Bits.{hasBit}
 use Rattle.site.specs.declared.State.{State}

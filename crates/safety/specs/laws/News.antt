@@ -10,8 +10,8 @@ use lib.Seq.{getD-set-other}
 use borrow.Author.Tests.{eq-eqb, ne-eqb}
 use Rattle.choice.specs.Choice.{pick, either}
 use Rattle.choice.specs.laws.Cases.{by-test, by-equal}
-use Rattle.vector.specs.Vector.{rises, mergeEntry, merge, risen, merging}
-use Rattle.vector.specs.laws.VectorLaws.{merge-at, rises-own, entry-changed, entry-kept}
+use Rattle.merging.specs.Merging.{rises, mergeEntry, merge, risen, merging}
+use Rattle.merging.specs.laws.MergeLaws.{merge-at, rises-own, entry-changed, entry-kept}
 use Rattle.row.specs.declared.Row.{Row}
 use Rattle.row.specs.Rows.{getRow}
 use Rattle.site.specs.declared.Site.{Site}

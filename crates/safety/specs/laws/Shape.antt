@@ -7,9 +7,9 @@ use native.Mathlib.Omega.{arith}
 use lib.Dec.{eqb}
 use lib.ListN.{length, length-set}
 use borrow.Author.Tests.{eqb-true}
-use Rattle.vector.specs.Vector.{merging}
+use Rattle.merging.specs.Merging.{merging}
 use Rattle.choice.specs.laws.ChoiceLaws.{pick-ind}
-use Rattle.vector.specs.laws.VectorLaws.{merge-length}
+use Rattle.merging.specs.laws.MergeLaws.{merge-length}
 use Rattle.site.specs.declared.Group.{Group}
 use Rattle.site.specs.declared.Group.the-variants as Group·
 use Rattle.site.specs.declared.Site.{Site}

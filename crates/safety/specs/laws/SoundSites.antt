@@ -10,8 +10,9 @@ use lib.Seq.{getD-set-same}
 use borrow.Author.Tests.{ltb-true, ltb-false, le-leb, leb-true, eq-eqb, eqb-true}
 use Rattle.choice.specs.Choice.{both}
 use Rattle.choice.specs.laws.ChoiceLaws.{pick-ind, both-on, both-first, both-second, set-ind}
-use Rattle.vector.specs.Vector.{rises, mergeEntry, merge, merging, validEntry, validEntries, validVector}
-use Rattle.vector.specs.laws.VectorLaws.{merge-at, merge-else, entry-own}
+use Rattle.vector.specs.Vector.{validEntry, validEntries, validVector}
+use Rattle.merging.specs.Merging.{rises, mergeEntry, merge, merging}
+use Rattle.merging.specs.laws.MergeLaws.{merge-at, merge-else, entry-own}
 use Rattle.row.specs.Rows.{codesKnown}
 use Rattle.site.specs.declared.Group.{Group}
 use Rattle.site.specs.declared.Group.the-variants as Group·

@@ -6,8 +6,9 @@ use mathlib.Core.Path.{_≡_, refl, _∙_}
 use native.Mathlib.Omega.{arith}
 use lib.ListN.{getD, set, length-set, getD-replicate, length-replicate}
 use Rattle.choice.specs.laws.ChoiceLaws.{pick-ind, set-ind}
-use Rattle.vector.specs.Vector.{weigh, rises, mergeEntry, merge}
-use Rattle.vector.specs.laws.VectorLaws.{merge-length, merge-at}
+use Rattle.vector.specs.Vector.{weigh}
+use Rattle.merging.specs.Merging.{rises, mergeEntry, merge}
+use Rattle.merging.specs.laws.MergeLaws.{merge-length, merge-at}
 use Rattle.row.specs.declared.Row.{Row}
 use Rattle.site.specs.declared.Group.{Group}
 use Rattle.site.specs.declared.Group.the-variants as Group·

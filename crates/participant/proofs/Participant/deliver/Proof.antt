@@ -1,5 +1,5 @@
 use borrow.Author.Needs.{needs}
-use Rattle.vector.specs.Vector.{merging}
+use Rattle.merging.specs.Merging.{merging}
 use Rattle.site.specs.Fields.{withCodes}
 use Rattle.rules.specs.Rules.{adopt, deliver, hear}
 use Rattle.participant.proofs.Participant.deliver.Statement.{statement}
@@ -8,7 +8,7 @@ use Rattle.participant.proofs.Participant.deliver.Reads as reads
 use Rattle.participant.proofs.Participant.deliver.Lts as lts
 use Rattle.deliveries.proofs.adopt.Reads as adopt-reads
 use Rattle.deliveries.proofs.answer.Reads as answer-reads
-use Rattle.vector.proofs.merge.Reads as merge-reads
+use Rattle.merging.proofs.merge.Reads as merge-reads
 
 merge-requires : tie.Need-merge-requires
 merge-requires c κs = search needs

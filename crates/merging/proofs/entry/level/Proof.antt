@@ -1,10 +1,10 @@
 use borrow.Author.Needs.{needs}
 use Rattle.choice.specs.laws.ChoiceLaws.{tests}
 use Rattle.vector.specs.Codes.{level}
-use Rattle.vector.proofs.codes.level.Statement.{statement}
-use Rattle.vector.proofs.codes.level.Tie as tie
-use Rattle.vector.proofs.codes.level.Reads as reads
-use Rattle.vector.proofs.codes.level.Lts as lts
+use Rattle.merging.proofs.entry.level.Statement.{statement}
+use Rattle.merging.proofs.entry.level.Tie as tie
+use Rattle.merging.proofs.entry.level.Reads as reads
+use Rattle.merging.proofs.entry.level.Lts as lts
 
 returns : tie.Need-returns
 unfolding level

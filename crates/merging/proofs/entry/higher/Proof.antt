@@ -1,10 +1,10 @@
 use borrow.Author.Needs.{needs}
 use borrow.Author.Tests.{lt-ltb, le-ltb}
-use Rattle.vector.proofs.vector.higher.Statement.{statement}
-use Rattle.vector.proofs.vector.higher.Tie as tie
-use Rattle.vector.proofs.vector.higher.Reads as reads
-use Rattle.vector.proofs.vector.higher.Lts as lts
-use Rattle.vector.proofs.codes.level.Reads as level-reads
+use Rattle.merging.proofs.entry.higher.Statement.{statement}
+use Rattle.merging.proofs.entry.higher.Tie as tie
+use Rattle.merging.proofs.entry.higher.Reads as reads
+use Rattle.merging.proofs.entry.higher.Lts as lts
+use Rattle.merging.proofs.entry.level.Reads as level-reads
 
 -- src/vector.rt:15:8
 level-requires : tie.Need-level-requires

@@ -10,9 +10,9 @@ use borrow.Author.Tests.{ltb-true, ltb-false}
 use Rattle.choice.specs.Choice.{pick}
 use Rattle.choice.specs.laws.ChoiceLaws.{pick-ind, set-ind}
 use Rattle.choice.specs.laws.Cases.{by-test, by-equal}
 use Rattle.vector.specs.Codes.{level}
-use Rattle.vector.specs.Vector.{rises, merge, risen, merging}
-use Rattle.vector.specs.laws.VectorLaws.{rises-own, rises-other, merge-else, merge-put-back}
+use Rattle.merging.specs.Merging.{rises, merge, risen, merging}
+use Rattle.merging.specs.laws.MergeLaws.{rises-own, rises-other, merge-else, merge-put-back}
 
 -- the sum of the entries below k
 unfoldable pub sumTo : ℕ → List ℕ → ℕ

@@ -4,9 +4,9 @@ ghost use Prim.Native.Nat.{ℕ, _<_, _≤_};
 ghost use lib.Dec.{ltb};
 ghost use lib.ListN.{getD};
 ghost use Rattle.choice.specs.Choice.{pick};
 ghost use Rattle.vector.specs.Codes.{level as levelOf};
-ghost use Rattle.vector.specs.laws.News.{sumTo};
-use crate::codes::level;
+ghost use Rattle.merging.specs.laws.News.{sumTo};
+use crate::entry::level;
 
 // 1 where the level said is higher than the one held.
 pub fn rise(held: u8, said: u8) -> u8

@@ -3,16 +3,16 @@ use native.Mathlib.Omega.{arith}
 use native.Mathlib.Numerals.{add-one}
 use Prim.Native.Nat.{ℕ, _≤_, _-_}
 use mathlib.Core.Path.{_≡_}
-use Rattle.vector.specs.Vector.{merge}
-use Rattle.vector.specs.laws.VectorLaws.{merge-on}
-use Rattle.vector.specs.laws.News.{roseTo, rose-on, rose-bits, merging-but-own}
-use Rattle.vector.proofs.vector.merge.Statement.{statement}
-use Rattle.vector.proofs.vector.merge.Tie as tie
-use Rattle.vector.proofs.vector.merge.Reads as reads
-use Rattle.vector.proofs.vector.merge.Lts as lts
-use Rattle.vector.proofs.news.rise.Reads as rise-reads
-use Rattle.vector.proofs.news.total.Reads as total-reads
-use Rattle.vector.proofs.vector.higher.Reads as higher-reads
+use Rattle.merging.specs.Merging.{merge}
+use Rattle.merging.specs.laws.MergeLaws.{merge-on}
+use Rattle.merging.specs.laws.News.{roseTo, rose-on, rose-bits, merging-but-own}
+use Rattle.merging.proofs.entries.merge.Statement.{statement}
+use Rattle.merging.proofs.entries.merge.Tie as tie
+use Rattle.merging.proofs.entries.merge.Reads as reads
+use Rattle.merging.proofs.entries.merge.Lts as lts
+use Rattle.merging.proofs.news.rise.Reads as rise-reads
+use Rattle.merging.proofs.news.total.Reads as total-reads
+use Rattle.merging.proofs.entry.higher.Reads as higher-reads
 
 abbrev Inv-loop : tie.InvT-loop
 Inv-loop n own said kept codes₀ rose₀ k₀ codes rose k = (k ≤ n) × (codes ≡ merge k n said codes₀) × (rose ≡ roseTo k n said codes₀)

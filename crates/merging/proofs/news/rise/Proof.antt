@@ -1,10 +1,10 @@
 use borrow.Author.Needs.{needs}
 use borrow.Author.Tests.{lt-ltb, le-ltb}
-use Rattle.vector.proofs.news.rise.Statement.{statement}
-use Rattle.vector.proofs.news.rise.Tie as tie
-use Rattle.vector.proofs.news.rise.Reads as reads
-use Rattle.vector.proofs.news.rise.Lts as lts
-use Rattle.vector.proofs.codes.level.Reads as level-reads
+use Rattle.merging.proofs.news.rise.Statement.{statement}
+use Rattle.merging.proofs.news.rise.Tie as tie
+use Rattle.merging.proofs.news.rise.Reads as reads
+use Rattle.merging.proofs.news.rise.Lts as lts
+use Rattle.merging.proofs.entry.level.Reads as level-reads
 
 level-requires : tie.Need-level-requires
 level-requires c κs = search needs

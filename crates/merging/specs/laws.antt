@@ -1,0 +1,2 @@
+pub mod MergeLaws
+pub mod News
