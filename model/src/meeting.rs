@@ -1,4 +1,4 @@
-//! What calls on a world meet of its news and of the limit.
+//! What calls on a world meet of its news, of the limit and of a row's sender.
 
 use crate::command::{Ask, Command};
 use crate::generate::Call;
@@ -6,7 +6,7 @@ use crate::layout::decode;
 use crate::number;
 use crate::play::play_command;
 use crate::row::Row;
-use crate::vector::level;
+use crate::vector::{level, outcome_of, Vector};
 use crate::world::{World, MAX_NEWS};
 
 /// Things that a one-command call can meet.
@@ -34,10 +34,22 @@ pub enum Meeting {
     OwnChanged,
     /// A row tells another code of the level that is held of a site.
     SameLevel,
+    /// A row comes from the receiver itself.
+    OwnRow,
+    /// Such a row tells of a higher level of the receiver than it has.
+    OwnRowTold,
+    /// A delivery raises the sender's entry and another's.
+    SenderAndOthers,
+    /// A delivery raises another's entry and not the sender's, who is not the
+    /// receiver.
+    OthersAlone,
+    /// A lower site shows the other outcome than the sender does, and the
+    /// receiver has none yet.
+    LowestDecides,
 }
 
 impl Meeting {
-    pub const ALL: [Meeting; 11] = [
+    pub const ALL: [Meeting; 16] = [
         Meeting::OverLimit,
         Meeting::WouldPass,
         Meeting::NoRoomFirst,
@@ -49,6 +61,11 @@ impl Meeting {
         Meeting::OwnTold,
         Meeting::OwnChanged,
         Meeting::SameLevel,
+        Meeting::OwnRow,
+        Meeting::OwnRowTold,
+        Meeting::SenderAndOthers,
+        Meeting::OthersAlone,
+        Meeting::LowestDecides,
     ];
 }
 
@@ -125,10 +142,21 @@ impl Delivery {
         self.me
     }
 
+    /// The row that is delivered.
+    pub fn row(&self) -> &Row {
+        &self.row
+    }
+
+    /// What the receiver knows once the row is merged, and the news.
+    fn merged(&self) -> (Vector, usize) {
+        let mut known = self.world.sites[self.me].vector;
+        let news = known.merge(&self.row.vector, self.me, self.row.sender);
+        (known, news)
+    }
+
     /// The news that it brings.
     pub fn news(&self) -> usize {
-        let mut known = self.world.sites[self.me].vector;
-        known.merge(&self.row.vector, self.me)
+        self.merged().1
     }
 
     /// The news that there would be.
@@ -138,8 +166,26 @@ impl Delivery {
 
     /// Does the row tell of a higher level of the receiver than it has?
     pub fn tells_own(&self) -> bool {
-        let (held, told) = self.codes_of(self.me);
-        level(told) > level(held)
+        self.tells_more_of(self.me)
+    }
+
+    /// Does the row come from the receiver itself?
+    pub fn is_from_receiver(&self) -> bool {
+        self.row.sender == self.me
+    }
+
+    /// Does the entry of a sender that is another site rise?
+    pub fn raises_sender(&self) -> bool {
+        !self.is_from_receiver() && self.tells_more_of(self.row.sender)
+    }
+
+    /// Has the receiver no outcome yet, and is the sender's another one than that
+    /// of the lowest site that shows one?
+    fn is_lowest_against_sender(&self) -> bool {
+        let (known, _) = self.merged();
+        let of_sender = outcome_of(known.codes()[self.row.sender]);
+        let is_open = self.world.sites[self.me].log.outcome.is_none();
+        is_open && of_sender.is_some() && of_sender != known.outcome()
     }
 
     /// The other sites of which the row tells another code of the level held.
@@ -152,6 +198,12 @@ impl Delivery {
         others.filter(is_same).collect()
     }
 
+    /// Does the row tell of a higher level of a site than is held?
+    fn tells_more_of(&self, site: usize) -> bool {
+        let (held, told) = self.codes_of(site);
+        level(told) > level(held)
+    }
+
     /// The codes held and told of a site.
     fn codes_of(&self, site: usize) -> (u8, u8) {
         let held = &self.world.sites[self.me].vector;
@@ -160,17 +212,33 @@ impl Delivery {
 
     /// What it may have met, if it is accepted.
     fn met(&self, call: &Call) -> Vec<(Meeting, bool)> {
-        let brings_news = self.news() > 0;
         let finds_limit = self.world.news == MAX_NEWS;
         let reaches_limit = self.total() == MAX_NEWS;
-        vec![
-            (Meeting::ReachesLimit, brings_news && reaches_limit),
+        let news = self.news();
+        let of_news = [
+            (Meeting::ReachesLimit, news > 0 && reaches_limit),
             (Meeting::IdleAtLimit, finds_limit),
-            (Meeting::Idle, !brings_news),
-            (Meeting::Several, self.news() > 1),
+            (Meeting::Idle, news == 0),
+            (Meeting::Several, news > 1),
             (Meeting::OwnTold, self.tells_own()),
             (Meeting::OwnChanged, self.changes_state(call)),
             (Meeting::SameLevel, !self.same_levels().is_empty()),
+        ];
+        [&of_news[..], &self.met_of_sender(news)].concat()
+    }
+
+    /// What it may have met of its sender, with this news.
+    fn met_of_sender(&self, news: usize) -> [(Meeting, bool); 5] {
+        let is_own = self.is_from_receiver();
+        let raises_sender = self.raises_sender();
+        let raises_others = news > usize::from(raises_sender);
+        let others_alone = !is_own && !raises_sender && raises_others;
+        [
+            (Meeting::OwnRow, is_own),
+            (Meeting::OwnRowTold, is_own && self.tells_own()),
+            (Meeting::SenderAndOthers, raises_sender && raises_others),
+            (Meeting::OthersAlone, others_alone),
+            (Meeting::LowestDecides, self.is_lowest_against_sender()),
         ]
     }
 

@@ -177,7 +177,7 @@ fn check_room(world: &World, command: Command, told: Option<&Row>) -> Result<(),
 /// one, is of the news that there would be: a refusal merges nothing.
 fn merge(world: &mut World, me: usize, row: &Row) -> Result<(), u8> {
     let mut known = world.sites[me].vector;
-    let news = world.news + known.merge(&row.vector, me);
+    let news = world.news + known.merge(&row.vector, me, row.sender);
     if news > MAX_NEWS {
         return Err(number::WORLD);
     }

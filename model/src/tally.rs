@@ -5,7 +5,7 @@ use std::fmt;
 
 use crate::command::Command;
 use crate::play::{play_command, play_list_by, Played};
-use crate::row::STORE_BYTES;
+use crate::row::{ROW_BYTES, STORE_BYTES};
 use crate::site::{Log, Site};
 use crate::state::{Side, State};
 use crate::world::{World, MAX_ROWS};
@@ -19,6 +19,10 @@ pub enum Sight {
     IdleDelivery,
     /// A delivery raises several entries.
     MuchNews,
+    /// A delivery raises the sender's entry and another's.
+    SenderAndOthers,
+    /// A delivery raises another's entry and not the sender's.
+    OthersAlone,
     /// Two sites are coordinators at once.
     SeveralLeaders,
     /// The two groups are there at once.
@@ -39,10 +43,12 @@ pub enum Sight {
 }
 
 impl Sight {
-    pub const ALL: [Sight; 11] = [
+    pub const ALL: [Sight; 13] = [
         Sight::Repeat,
         Sight::IdleDelivery,
         Sight::MuchNews,
+        Sight::SenderAndOthers,
+        Sight::OthersAlone,
         Sight::SeveralLeaders,
         Sight::BothGroups,
         Sight::CrashMidway,
@@ -71,7 +77,10 @@ impl Day {
             let news_before = world.news;
             let next = play_command(world, store, ask)?;
             eye.look(world, command, before.as_ref());
-            eye.look_at_news(command, world.news - news_before);
+            if let (Command::Deliver { row, site }, Some(before)) = (command, before) {
+                let is_raised = raises_sender(store, row, &before, &world.sites[site]);
+                eye.look_at_news(world.news - news_before, is_raised);
+            }
             Ok(next)
         });
         let seen = eye.seen;
@@ -81,6 +90,13 @@ impl Day {
     pub fn saw(&self, sight: Sight) -> bool {
         self.seen[sight as usize]
     }
+}
+
+/// Did the delivery of a row raise its sender's entry? In a played list the sender
+/// is never the receiver.
+fn raises_sender(store: &[u8], row: usize, before: &Site, after: &Site) -> bool {
+    let sender = usize::from(store[row * ROW_BYTES + 1]);
+    before.vector.codes()[sender] != after.vector.codes()[sender]
 }
 
 /// What was seen of a list so far.
@@ -129,11 +145,13 @@ impl Eye {
         self.note(Sight::FullStore, world.row_count == MAX_ROWS);
     }
 
-    /// Looks at the news that a command has brought.
-    fn look_at_news(&mut self, command: Command, news: usize) {
-        let is_delivery = matches!(command, Command::Deliver { .. });
-        self.note(Sight::IdleDelivery, is_delivery && news == 0);
-        self.note(Sight::MuchNews, is_delivery && news > 1);
+    /// Looks at the news that a delivery has brought, of the sender or not.
+    fn look_at_news(&mut self, news: usize, raises_sender: bool) {
+        let raises_others = news > usize::from(raises_sender);
+        self.note(Sight::IdleDelivery, news == 0);
+        self.note(Sight::MuchNews, news > 1);
+        self.note(Sight::SenderAndOthers, raises_sender && raises_others);
+        self.note(Sight::OthersAlone, !raises_sender && raises_others);
     }
 
     fn look_at_leaders(&mut self, world: &World) {

@@ -46,27 +46,33 @@ impl Vector {
         self.0.iter().filter(|&&held| held == code).count()
     }
 
-    /// For every other site, takes the code told if its level is higher than
-    /// the one held. Gives the news: how many entries rose.
-    pub fn merge(&mut self, told: &Vector, own: usize) -> usize {
-        let mut news = 0;
-        let entries = self.0.iter_mut().zip(&told.0).enumerate();
-        for (site, (held, &told)) in entries {
-            if site != own && level(told) > level(*held) {
-                *held = told;
-                news += 1;
-            }
+    /// Merges a sender's row into what site `own` knows: the sender's entry first,
+    /// which is nearly always the news, then the others' in number order. A row
+    /// from the site itself has no such entry. Gives the news: how many rose.
+    pub fn merge(&mut self, told: &Vector, own: usize, sender: usize) -> usize {
+        let first = sender != own && self.take(told, sender);
+        let others = (0..MAX_SITES).filter(|&site| site != own && site != sender);
+        usize::from(first) + self.merge_in(told, others)
+    }
+
+    /// Merges what is told of these sites, in this order. Gives the news.
+    pub fn merge_in(&mut self, told: &Vector, order: impl Iterator<Item = usize>) -> usize {
+        order.map(|site| usize::from(self.take(told, site))).sum()
+    }
+
+    /// Takes what is told of a site if its level is higher than the one held.
+    /// Did the entry rise?
+    fn take(&mut self, told: &Vector, site: usize) -> bool {
+        let rises = level(told.0[site]) > level(self.0[site]);
+        if rises {
+            self.0[site] = told.0[site];
         }
-        news
+        rises
     }
 
     /// The outcome that some entry shows, the lowest site's first.
     pub fn outcome(&self) -> Option<Side> {
-        self.0.iter().find_map(|code| match code {
-            4 => Some(Side::Commit),
-            5 => Some(Side::Abort),
-            _ => None,
-        })
+        self.0.iter().find_map(|&code| outcome_of(code))
     }
 }
 
@@ -77,5 +83,14 @@ pub fn level(code: u8) -> u8 {
         1 => 1,
         2 | 3 => 2,
         _ => 3,
+    }
+}
+
+/// The outcome that a code shows, if it does.
+pub fn outcome_of(code: u8) -> Option<Side> {
+    match code {
+        4 => Some(Side::Commit),
+        5 => Some(Side::Abort),
+        _ => None,
     }
 }

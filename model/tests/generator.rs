@@ -17,6 +17,23 @@ const CALLS: usize = 10_000;
 /// A delivery takes 4 bytes and raises the entries of 15 other sites at most.
 const MOST_NEWS: usize = (32_768 - 5) / 4 * 15;
 
+/// In how many of a hundred guided lists each sight must be had.
+const LEAST: [(Sight, usize); 13] = [
+    (Sight::CommitQuorum, 10),
+    (Sight::AbortQuorum, 10),
+    (Sight::FullStore, 5),
+    (Sight::Repeat, 10),
+    (Sight::IdleDelivery, 10),
+    (Sight::MuchNews, 10),
+    (Sight::SenderAndOthers, 10),
+    (Sight::OthersAlone, 10),
+    (Sight::SeveralLeaders, 10),
+    (Sight::BothGroups, 2),
+    (Sight::CrashMidway, 5),
+    (Sight::ThreesForPrepares, 2),
+    (Sight::Restart, 5),
+];
+
 /// The tally of many lists, each of which is looked at command by command.
 fn tally_of(lists: &[Vec<u8>]) -> Tally {
     let mut tally = Tally::default();
@@ -110,31 +127,30 @@ fn guided_lists_are_rich() {
     let mut generator = Generator::new(SEED);
     let lists: Vec<Vec<u8>> = (0..LISTS).map(|_| generator.next_guided()).collect();
     let tally = tally_of(&lists);
-    for (sight, least) in [
-        (Sight::CommitQuorum, 10),
-        (Sight::AbortQuorum, 10),
-        (Sight::FullStore, 5),
-        (Sight::Repeat, 10),
-        (Sight::IdleDelivery, 10),
-        (Sight::MuchNews, 10),
-        (Sight::SeveralLeaders, 10),
-        (Sight::BothGroups, 2),
-        (Sight::CrashMidway, 5),
-        (Sight::ThreesForPrepares, 2),
-        (Sight::Restart, 5),
-    ] {
-        assert!(tally.percent(sight) >= least, "{sight:?}");
-    }
+    assert_rich(&tally);
     let header_only = lists.iter().filter(|list| list.len() == 5);
     assert!(header_only.count() > LISTS / 400);
     assert_eq!(tally.longest, 32_768);
     assert!(tally.sites.iter().copied().eq(3..=16));
-    for number in [0, 6, 7, 8, 9, 11, 12, 13, 14, 15] {
-        assert!(tally.ended(number) > LISTS / 100, "number {number}");
+    assert_ended(&tally);
+}
+
+/// Each sight is had often enough.
+fn assert_rich(tally: &Tally) {
+    for (sight, least) in LEAST {
+        assert!(tally.percent(sight) >= least, "{sight:?}");
     }
-    // A guided list has a good header and rows.
-    for number in [1, 2, 3, 4, 5, 10] {
-        assert_eq!(tally.ended(number), 0, "number {number}");
+}
+
+/// Guided lists end in every way that a list with a good header and rows can.
+fn assert_ended(tally: &Tally) {
+    for number in 0..=number::FULL {
+        let count = tally.ended(number);
+        let is_due = match number {
+            1..=5 | number::BAD_ROW => count == 0,
+            _ => count > LISTS / 100,
+        };
+        assert!(is_due, "{count} end with number {number}");
     }
 }
 
@@ -160,7 +176,7 @@ struct Met {
     timeouts: HashSet<(State, Role)>,
     /// State and role at each accepted RECOVER.
     recoveries: HashSet<(State, Role)>,
-    /// What they met of the news.
+    /// What they met of the news and of the sender.
     meetings: BTreeMap<Meeting, usize>,
 }
 
@@ -179,6 +195,23 @@ impl Met {
         *self.numbers.entry(number).or_default() += 1;
         for meeting in meetings(&call, number) {
             *self.meetings.entry(meeting).or_default() += 1;
+        }
+    }
+
+    /// Every number that a command can be given was given often enough.
+    fn check_numbers(&self) {
+        for number in [0].into_iter().chain(6..=17) {
+            let count = self.numbers.get(&number).copied().unwrap_or(0);
+            assert!(count > CALLS / 1_000, "number {number}");
+        }
+        assert!(self.numbers[&0] > CALLS / 3);
+    }
+
+    /// All there is to meet was met often enough.
+    fn check_meetings(&self) {
+        for meeting in Meeting::ALL {
+            let count = self.meetings.get(&meeting).copied().unwrap_or(0);
+            assert!(count > CALLS / 1_000, "{meeting:?} is met {count} times");
         }
     }
 
@@ -210,15 +243,8 @@ fn single_calls_meet_every_number_and_rule() {
         met.add(generator.next_call());
     }
     println!("{:?} {:?}", met.numbers, met.meetings);
-    for number in [0].into_iter().chain(6..=17) {
-        let count = met.numbers.get(&number).copied().unwrap_or(0);
-        assert!(count > CALLS / 1_000, "number {number}");
-    }
-    assert!(met.numbers[&0] > CALLS / 3);
-    for meeting in Meeting::ALL {
-        let count = met.meetings.get(&meeting).copied().unwrap_or(0);
-        assert!(count > CALLS / 1_000, "{meeting:?} is met {count} times");
-    }
+    met.check_numbers();
+    met.check_meetings();
     // Seven kinds, six states, two roles.
     assert_eq!(met.deliveries.len(), 7 * 6 * 2);
     assert_eq!(met.timeouts.len(), 6 * 2);
@@ -245,17 +271,27 @@ fn duels_fill_the_store_undecided() {
         let day = Day::watch(&list);
         see_through(&list, &day.played);
         assert_eq!((day.played.number, day.played.place), (0, 32_768));
-        for sight in [
-            Sight::FullStore,
-            Sight::SeveralLeaders,
-            Sight::BothGroups,
-            Sight::CrashMidway,
-            Sight::Repeat,
-        ] {
-            assert!(day.saw(sight), "{sight:?} with {n} sites");
-        }
-        let members = day.played.world.members();
-        assert!(members.iter().all(|site| site.log.outcome.is_none()));
+        assert!(is_undecided(&day), "{n} sites");
+        assert_duel(&day, n);
+    }
+}
+
+/// Has no site an outcome at the end?
+fn is_undecided(day: &Day) -> bool {
+    let mut members = day.played.world.members().iter();
+    members.all(|site| site.log.outcome.is_none())
+}
+
+/// All is seen that a duel of n sites is for.
+fn assert_duel(day: &Day, n: u8) {
+    for sight in [
+        Sight::FullStore,
+        Sight::SeveralLeaders,
+        Sight::BothGroups,
+        Sight::CrashMidway,
+        Sight::Repeat,
+    ] {
+        assert!(day.saw(sight), "{sight:?} with {n} sites");
     }
 }
 

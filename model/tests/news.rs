@@ -6,25 +6,17 @@ use model::calls::{Calls, Model, RESULT_BYTES};
 use model::layout::{decode, encode};
 use model::row::STORE_BYTES;
 use model::world::{MAX_NEWS, MAX_ROWS};
-use model::{number, one_command, play_list, Ask, Command, Kind, Log, Row, Side, Sizes, World};
+use model::{number, one_command, play_list, Ask, Command, Kind, Log, Side, World};
 
-use common::{three, three_sites, vector};
+use common::{all_willing, prepared, row_to_all, three, three_sites, world_with};
 use Command::{Crash, Recover, Start, Timeout};
 
 /// Four sites; site 1 is prepared and holds these codes. One row is sent, to all.
 fn told(held: [u8; 4], kind: Kind, codes: [u8; 4]) -> (World, Vec<u8>) {
-    let mut world = World::fresh(Sizes::new(4, 3, 2, 15));
-    world.sites[1].log.prepare = true;
-    world.sites[1].vector = vector(&held);
-    world.row_count = 1;
     let mut store = vec![0; STORE_BYTES];
-    let row = Row {
-        kind,
-        sender: 0,
-        to: 15,
-        vector: vector(&codes),
-    };
-    row.write(&mut store, 0);
+    let row = row_to_all(kind, 0, &codes);
+    let site = (1, prepared(&held));
+    let world = world_with(all_willing(4), site, Some(&row), &mut store);
     (world, store)
 }
 

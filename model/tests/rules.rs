@@ -5,7 +5,7 @@ mod common;
 use model::row::{ROW_BYTES, STORE_BYTES};
 use model::{one_command, Ask, Command, Kind, Log, Role, Row, Side, Site, Sizes, State, World};
 
-use common::{group, vector};
+use common::{all_willing, group, row_to_all, vector, world_with};
 
 /// Site 1 of four with this log and vector, up and subordinate. Its group
 /// record knows of no other site.
@@ -25,13 +25,8 @@ fn site(prepare: bool, joined: Option<Side>, outcome: Option<Side>, codes: [u8; 
 
 /// What a command at site 1 makes of it, and the row it sends.
 fn after(site: Site, told: Option<Row>, command: Command) -> (Site, Option<Row>) {
-    let mut world = World::fresh(Sizes::new(4, 3, 2, 15));
     let mut store = vec![0; STORE_BYTES];
-    world.sites[1] = site;
-    if let Some(row) = told {
-        row.write(&mut store, 0);
-        world.row_count = 1;
-    }
+    let mut world = world_with(all_willing(4), (1, site), told.as_ref(), &mut store);
     let before = world.row_count;
     let list = command.bytes();
     one_command(&mut world, &mut store, Ask::new(&list, 0)).unwrap();
@@ -41,12 +36,7 @@ fn after(site: Site, told: Option<Row>, command: Command) -> (Site, Option<Row>)
 
 /// The same for a row from a sender.
 fn told(site: Site, kind: Kind, sender: usize, codes: [u8; 4]) -> (Site, Option<Row>) {
-    let row = Row {
-        kind,
-        sender,
-        to: 0xffff,
-        vector: vector(&codes),
-    };
+    let row = row_to_all(kind, sender, &codes);
     after(site, Some(row), Command::deliver(0, 1))
 }
 

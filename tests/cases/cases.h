@@ -1,4 +1,4 @@
-/* Cases just inside and just outside of every number, as tables: what the tables share.
+/* Cases just inside and just outside of every number, and of merging, as tables: what the tables share.
  *
  * What a case must give is worked out by hand from documents 01 and 02, and it is played through the C functions. A refused command or report must
  * leave every buffer as it was, and refused lines their buffer. A difference is told with the case's name, and ends the program.
@@ -13,6 +13,7 @@ void list_cases(void);
 void command_cases(void);
 void row_cases(void);
 void world_cases(void);
+void merging_cases(void);
 void news_cases(void);
 void report_cases(void);
 void line_cases(void);
@@ -66,5 +67,8 @@ struct command {
 
 /* Plays the command in the world with these changes, and a store of this length: the bytes of a row 0, then zeros. Gives the world after it. */
 const uint8_t *expect_command(const struct command *command, const struct change *changes, const uint8_t *row, size_t store_length);
+
+/* The store after the last such command. */
+const uint8_t *store_after(void);
 
 #endif

@@ -34,11 +34,17 @@ void make_world(uint8_t *world, const struct change *changes)
             world[changes[i].at + byte] = (uint8_t)(byte < 4 ? changes[i].value >> 8 * byte : 0);
 }
 
+static struct {
+    uint8_t world[QC_WORLD_BYTES], store[QC_STORE_BYTES], result[QC_RESULT_BYTES];
+} now, before;
+
+const uint8_t *store_after(void)
+{
+    return now.store;
+}
+
 const uint8_t *expect_command(const struct command *command, const struct change *changes, const uint8_t *row, size_t store_length)
 {
-    static struct {
-        uint8_t world[QC_WORLD_BYTES], store[QC_STORE_BYTES], result[QC_RESULT_BYTES];
-    } now, before;
     unsigned answer;
     make_world(now.world, changes);
     memset(now.store, 0, sizeof now.store);
@@ -61,11 +67,12 @@ int main(void)
     command_cases();
     row_cases();
     world_cases();
+    merging_cases();
     news_cases();
     report_cases();
     line_cases();
     bad_line_cases();
     long_line_cases();
-    printf("cases: %u cases around the numbers 1 to 20\n", cases);
+    printf("cases: %u cases, around the numbers 1 to 20 and of merging\n", cases);
     return 0;
 }

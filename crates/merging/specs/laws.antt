@@ -1,2 +1,5 @@
+pub mod Orders
 pub mod MergeLaws
 pub mod News
+pub mod Loop
+pub mod Tops

@@ -7,22 +7,24 @@ use crate::entry::higher;
 use crate::news::rise;
 use crate::news::total;
 
-// The vector held, merged with what a row says, for every site below n but the receiver, and how many entries rose. Each turn does the
-// same: the receiver's own entry is put back at the end, and is then none that rose.
-pub fn merge(n: usize, own: usize, said: [u8; 16], held: [u8; 16]) -> Merged
-    requires { ⌜ (n ≤ 16) × (own < n) ⌝ }
-    ensures { λ r. ⌜ r ≡ merging n own said held ⌝ }
+// The vector held, merged with what a sender's row says, and how many entries rose: the sender's entry first, then all below n.
+// The loop meets the sender's again. It goes by what was held, so it stores the same code and the same mark over it: a mark is stored and not
+// added, and the entry does not rise twice. The receiver's own is put back at the end and is then none that rose, also where it came first.
+pub fn merge(n: usize, own: usize, sender: usize, said: [u8; 16], held: [u8; 16]) -> Merged
+    requires { ⌜ (n ≤ 16) × (own < n) × (sender < n) ⌝ }
+    ensures { λ r. ⌜ r ≡ merging n own sender said held ⌝ }
 {
-    let kept = held[own];
     let mut codes = held;
     let mut rose = [0; 16];
+    codes[sender] = higher(held[sender], said[sender]);
+    rose[sender] = rise(held[sender], said[sender]);
     let mut k = 0;
     while k < n {
-        rose[k] = rise(codes[k], said[k]);
-        codes[k] = higher(codes[k], said[k]);
+        codes[k] = higher(held[k], said[k]);
+        rose[k] = rise(held[k], said[k]);
         k += 1;
     }
-    codes[own] = kept;
+    codes[own] = held[own];
     rose[own] = 0;
     Merged {
         codes,

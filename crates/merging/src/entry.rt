@@ -1,26 +1,26 @@
-// One entry: the level of a code, and what the entry becomes.
+// One entry: how far its level reaches, and what it becomes.
 ghost use mathlib.Core.Path.{_≡_};
-ghost use lib.Dec.{ltb};
-ghost use Rattle.choice.specs.Choice.{pick};
-ghost use Rattle.vector.specs.Codes.{level as levelOf};
+ghost use Rattle.merging.specs.Merging.{mergeEntry};
+ghost use Rattle.merging.specs.laws.Tops.{top as topOf};
 
-pub fn level(code: u8) -> u8
-    ensures { λ r. ⌜ r ≡ levelOf code ⌝ }
+// The highest byte of a code's level: the codes above it are those of a higher level. So one level is worked out for an entry, not two.
+pub fn top(code: u8) -> u8
+    ensures { λ r. ⌜ r ≡ topOf code ⌝ }
 {
     if code < 2 {
         return code;
     }
     if code < 4 {
-        return 2;
+        return 3;
     }
-    3
+    255
 }
 
 // The code of the higher level, the one held where the levels are equal.
 pub fn higher(held: u8, said: u8) -> u8
-    ensures { λ r. ⌜ r ≡ pick (ltb (levelOf held) (levelOf said)) said held ⌝ }
+    ensures { λ r. ⌜ r ≡ mergeEntry held said ⌝ }
 {
-    if level(held) < level(said) {
+    if top(held) < said {
         return said;
     }
     held

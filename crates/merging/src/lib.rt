@@ -1,4 +1,4 @@
-// Merging what a row says into the vector that a site holds.
+// Merging what a row says into the vector that a site holds, the sender's entry first.
 mod entries;
 mod entry;
 mod news;

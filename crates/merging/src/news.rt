@@ -1,18 +1,17 @@
 // How many entries rise in a merge.
 ghost use mathlib.Core.Path.{_≡_};
 ghost use Prim.Native.Nat.{ℕ, _<_, _≤_};
-ghost use lib.Dec.{ltb};
 ghost use lib.ListN.{getD};
 ghost use Rattle.choice.specs.Choice.{pick};
-ghost use Rattle.vector.specs.Codes.{level as levelOf};
-ghost use Rattle.merging.specs.laws.News.{sumTo};
-use crate::entry::level;
+ghost use Rattle.merging.specs.Merging.{rises};
+ghost use Rattle.choice.specs.laws.Stores.{sumTo};
+use crate::entry::top;
 
 // 1 where the level said is higher than the one held.
 pub fn rise(held: u8, said: u8) -> u8
-    ensures { λ r. ⌜ (r ≡ pick (ltb (levelOf held) (levelOf said)) 1 0) × (r ≤ 1) ⌝ }
+    ensures { λ r. ⌜ (r ≡ pick (rises held said) 1 0) × (r ≤ 1) ⌝ }
 {
-    if level(held) < level(said) {
+    if top(held) < said {
         return 1;
     }
     0
@@ -21,7 +20,7 @@ pub fn rise(held: u8, said: u8) -> u8
 // The sum of sixteen noughts and ones, in a byte, so that the compiler adds sixteen at once.
 pub fn total(rose: [u8; 16]) -> usize
     requires { ⌜ ((i : ℕ) → i < 16 → getD rose i 0 ≤ 1) ⌝ }
-    ensures { λ r. ⌜ r ≡ sumTo 16 rose ⌝ }
+    ensures { λ r. ⌜ r ≡ sumTo (λ i. getD rose i 0) 16 ⌝ }
 {
     let mut sum = 0;
     let mut k = 0;

@@ -18,7 +18,7 @@ impl Participant {
         let mut site = self.site;
         let said = row.codes;
         let held = site.codes;
-        let merged = merging::merge(n, own, said, held);
+        let merged = merging::merge(n, own, row.sender, said, held);
         let codes = merged.codes;
         site.codes = codes;
         answer(

@@ -98,9 +98,9 @@ timeoutIn State·.Aborted own n c a s = takeOver 6 own n s
 unfoldable pub timeout : ℕ → ℕ → CommitQuorum → AbortQuorum → Site → Move
 timeout own n c a s = timeoutIn (stateOf s) own n c a s
 
--- DELIVER, first: merge; this is the vector that merging gives
-unfoldable pub hear : ℕ → ℕ → List ℕ → Site → Site
-hear own n said s = withCodes (merging n own said (s .codes) .codes) s
+-- DELIVER, first: merge, the sender's entry first; this is the vector that merging gives
+unfoldable pub hear : ℕ → ℕ → Row → Site → Site
+hear own n row s = withCodes (merging n own (row .sender) (row .codes) (s .codes) .codes) s
 
 -- the outcome of a code 4 or 5, written; any other code writes nothing
 unfoldable pub adoptCode : ℕ → ℕ → Site → Noted
@@ -160,11 +160,14 @@ answer kind own sender willing m =
 unfoldable pub bringing : ℕ → Move → Move
 bringing news m = record { step = record { site = m .step .site; row = m .step .row; news = news }; records = m .records }
 
+-- DELIVER, after a merge with so much news: adopt an outcome, answer by kind
+unfoldable pub afterHearing : ℕ → ℕ → ℕ → Bool → Row → Site → Move
+afterHearing news own n willing row heard = bringing news (answer (row .kind) own (row .sender) willing (adopt own n heard))
+
 -- DELIVER; its news: how many entries merging raised
 unfoldable pub deliver : ℕ → ℕ → Bool → Row → Site → Move
 deliver own n willing row s =
-    bringing (merging n own (row .codes) (s .codes) .news)
-    (answer (row .kind) own (row .sender) willing (adopt own n (hear own n (row .codes) s)))
+    afterHearing (merging n own (row .sender) (row .codes) (s .codes) .news) own n willing row (hear own n row s)
 
 -- what a crash leaves of the vector: the one in the group record, or all 0
 unfoldable pub keptVector : Group → List ℕ → List ℕ

@@ -70,11 +70,11 @@ pub record NoConflict (n : ℕ) (v : List ℕ) : Type 0 where
 -- finds no active site, neither as it comes nor after the merge
 pub record Delivered (w : World) (store : List ℕ) (k i : ℕ) : Type 0 where
   pub row-agrees : NoConflict (w .n) (getRow store k .codes)
-  pub merged-agrees : NoConflict (w .n) (hear i (w .n) (getRow store k .codes) (siteOf w i) .codes)
+  pub merged-agrees : NoConflict (w .n) (hear i (w .n) (getRow store k) (siteOf w i) .codes)
   pub not-active : getRow store k .kind ≡ 3 → isActive (stateOf (siteOf w i)) ≡ false
   pub not-active-then :
       getRow store k .kind ≡ 3 →
-      isActive (stateOf (adopt i (w .n) (hear i (w .n) (getRow store k .codes) (siteOf w i)) .site)) ≡ false
+      isActive (stateOf (adopt i (w .n) (hear i (w .n) (getRow store k) (siteOf w i)) .site)) ≡ false
 
 -- THEOREM 2: after any list of calls, an accepted delivery finds no conflict, and its join commit no active site
 abbrev pub NeverOccurs : Type 0
@@ -213,7 +213,7 @@ pub record Tells (w : World) (store list : List ℕ) (at : ℕ) : Type 0 where
       maxNews
       < w .news
       + entriesChanged (w .n) (d .site) (siteOf w (d .site) .codes)
-      (hear (d .site) (w .n) (getRow store (d .row) .codes) (siteOf w (d .site)) .codes)
+      (hear (d .site) (w .n) (getRow store (d .row)) (siteOf w (d .site)) .codes)
 
 -- THEOREM 10: of every call, from any world of the type's shape and any store
 abbrev pub CallTells : Type 0

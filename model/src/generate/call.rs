@@ -12,6 +12,12 @@ use crate::state::{Side, State};
 use crate::vector::Vector;
 use crate::world::{World, MAX_NEWS, MAX_ROWS};
 
+/// The lowest and the highest code that a site may hold, and that a row may tell:
+/// outcomes are not always there. Some rows tell of nothing else, so that both are
+/// often shown to a site that has none.
+const HELD: [(usize, usize); 5] = [(0, 1), (0, 2), (0, 3), (0, 3), (0, 5)];
+const TOLD: [(usize, usize); 5] = [(0, 1), (0, 2), (0, 3), (4, 5), (0, 5)];
+
 /// All that a one-command call is given, the world as bytes.
 #[derive(Clone, Debug)]
 pub struct Call {
@@ -72,12 +78,18 @@ fn thinkable(rng: &mut Rng) -> (World, Vec<u8>) {
     for me in 0..n {
         world.sites[me] = thinkable_site(rng, me, n);
     }
+    let store = thinkable_store(rng, &world);
+    (world, store)
+}
+
+/// A store with as many rows as a world has, and anything after them.
+fn thinkable_store(rng: &mut Rng, world: &World) -> Vec<u8> {
     let size = STORE_BYTES + rng.choose(&[0, 0, 1, 100]);
     let mut store = rng.bytes(size);
     for row in store.chunks_exact_mut(ROW_BYTES).take(world.row_count) {
-        row.copy_from_slice(&thinkable_row(rng, n));
+        row.copy_from_slice(&thinkable_row(rng, world.sizes.n));
     }
-    (world, store)
+    store
 }
 
 fn thinkable_site(rng: &mut Rng, me: usize, n: usize) -> Site {
@@ -104,18 +116,18 @@ fn maybe_side(rng: &mut Rng, percent: usize) -> Option<Side> {
 
 /// Any vector of a site in that state.
 fn thinkable_vector(rng: &mut Rng, n: usize, me: usize, state: State) -> Vector {
-    let mut vector = Vector::read(&thinkable_codes(rng, n)).expect("codes up to 5");
+    let codes = thinkable_codes(rng, n, &HELD);
+    let mut vector = Vector::read(&codes).expect("codes up to 5");
     vector.set(me, state);
     vector
 }
 
-/// Codes up to a height, so that outcomes are not always there; at times all
-/// of one sort.
-fn thinkable_codes(rng: &mut Rng, n: usize) -> Vec<u8> {
-    let height = rng.choose(&[1, 2, 3, 3, 5]);
-    let same = rng.chance(25).then(|| rng.below(height + 1) as u8);
+/// Codes in one of these ranges; at times all of one sort.
+fn thinkable_codes(rng: &mut Rng, n: usize, ranges: &[(usize, usize)]) -> Vec<u8> {
+    let (low, high) = rng.choose(ranges);
+    let same = rng.chance(25).then(|| rng.between(low, high) as u8);
     (0..n)
-        .map(|_| same.unwrap_or_else(|| rng.below(height + 1) as u8))
+        .map(|_| same.unwrap_or_else(|| rng.between(low, high) as u8))
         .collect()
 }
 
@@ -143,7 +155,7 @@ fn thinkable_row(rng: &mut Rng, n: usize) -> [u8; ROW_BYTES] {
         rng.draw() as u16
     };
     row[2..4].copy_from_slice(&to.to_le_bytes());
-    row[4..4 + n].copy_from_slice(&thinkable_codes(rng, n));
+    row[4..4 + n].copy_from_slice(&thinkable_codes(rng, n, &TOLD));
     for code in &mut row[4 + n..] {
         *code = rng.choose(&[0, 0, 3, 200]);
     }

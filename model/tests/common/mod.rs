@@ -6,7 +6,8 @@ pub mod bad_lines;
 pub mod bad_lists;
 
 use model::generate::list_of;
-use model::{Command, GroupRecord, Role, Side, Sizes, State, Vector, World};
+use model::sizes::everyone;
+use model::{Command, GroupRecord, Kind, Log, Role, Row, Side, Site, Sizes, State, Vector, World};
 
 use Command::{Crash, Recover, Start, Timeout};
 
@@ -61,6 +62,11 @@ pub fn three_sites(willing: u16) -> Sizes {
     Sizes::new(3, 2, 2, willing)
 }
 
+/// So many sites, all willing; abort takes two of them, commit all but one.
+pub fn all_willing(n: usize) -> Sizes {
+    Sizes::new(n, n - 1, 2, everyone(n))
+}
+
 /// A list of three sites with these willing bits and commands.
 pub fn three(willing: u16, commands: &[Command]) -> Vec<u8> {
     list_of(three_sites(willing), commands)
@@ -87,6 +93,45 @@ pub fn vector(codes: &[u8]) -> Vector {
 pub fn group(side: Side, codes: &[u8]) -> Option<GroupRecord> {
     let vector = vector(codes);
     Some(GroupRecord { side, vector })
+}
+
+/// A site that is prepared, with nothing else in its log, and holds these codes.
+pub fn prepared(codes: &[u8]) -> Site {
+    let log = Log {
+        prepare: true,
+        ..Log::EMPTY
+    };
+    Site {
+        log,
+        vector: vector(codes),
+        ..Site::FRESH
+    }
+}
+
+/// A row to all sites that tells these codes.
+pub fn row_to_all(kind: Kind, sender: usize, codes: &[u8]) -> Row {
+    Row {
+        kind,
+        sender,
+        to: u16::MAX,
+        vector: vector(codes),
+    }
+}
+
+/// A world that is fresh but for one site, and for the row sent, if one is.
+pub fn world_with(
+    sizes: Sizes,
+    (me, site): (usize, Site),
+    sent: Option<&Row>,
+    store: &mut [u8],
+) -> World {
+    let mut world = World::fresh(sizes);
+    world.sites[me] = site;
+    if let Some(row) = sent {
+        row.write(store, 0);
+        world.row_count = 1;
+    }
+    world
 }
 
 /// The world whose report is the longest.

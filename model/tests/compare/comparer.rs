@@ -62,7 +62,7 @@ pub struct Comparer<'a> {
     pub numbers: BTreeMap<u32, usize>,
     /// How often each directed clause was hit.
     pub clauses: BTreeMap<&'static str, usize>,
-    /// How often a generated call met each thing about the news.
+    /// How often a generated call met each thing about the news and the sender.
     pub meetings: BTreeMap<Meeting, usize>,
     /// Generated reports that were refused for the news alone.
     pub over_limit: usize,
@@ -181,7 +181,7 @@ impl<'a> Comparer<'a> {
         Ok(self.count(number))
     }
 
-    /// A generated call, with an eye on its news.
+    /// A generated call, with an eye on its news and its sender.
     pub fn call(&mut self, call: &Call) -> Agreed {
         let number = self.command(&call.world, &call.store, call.ask(), RESULT_BYTES)?;
         for meeting in meetings(call, number) {

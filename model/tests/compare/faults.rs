@@ -1,5 +1,7 @@
 //! Copies of the model with one fault each: the comparison has to see it.
 
+mod merging;
+
 use model::calls::{Model, Rules};
 use model::meeting::Delivery;
 use model::play::play_command;
@@ -56,9 +58,28 @@ pub enum Fault {
     FearsMuchNews,
     /// A report of a stop by 19 or 20 is refused with 17.
     FearsLineNumbers,
+    /// After the sender's entry only those from site 1 up are taken.
+    MissesSiteZero,
+    /// The sender's entry is taken and no other.
+    TakesSenderAlone,
+    /// The sender's entry is met again among the others and counted again.
+    CountsSenderTwice,
+    /// The receiver's own entry is taken, and counted, where it is the sender.
+    TakesOwnAsSender,
+    /// The sender's outcome is written and not the lowest site's.
+    LetsSenderDecide,
 }
 
-pub const FAULTS: [Fault; 21] = [
+/// Those of taking the sender's entry first.
+pub const SENDER_FAULTS: [Fault; 5] = [
+    Fault::MissesSiteZero,
+    Fault::TakesSenderAlone,
+    Fault::CountsSenderTwice,
+    Fault::TakesOwnAsSender,
+    Fault::LetsSenderDecide,
+];
+
+const OTHERS: [Fault; 21] = [
     Fault::CountsAllEntries,
     Fault::TakesThreeForPrepare,
     Fault::KeepsVector,
@@ -82,32 +103,24 @@ pub const FAULTS: [Fault; 21] = [
     Fault::FearsLineNumbers,
 ];
 
+/// Every fault there is.
+pub fn faults() -> impl Iterator<Item = Fault> {
+    OTHERS.into_iter().chain(SENDER_FAULTS)
+}
+
 pub struct Faulty(pub Fault);
 
 impl Rules for Faulty {
     fn command(&self, world: &mut World, store: &mut [u8], ask: Ask) -> Result<usize, u8> {
         let before = *world;
         let told = Delivery::of(world, store, ask);
-        let next = match (self.0, self.play(world, store, ask), &told) {
-            (Fault::MistakesBadRow, Err(number::BAD_ROW), _) => Err(number::ROW),
-            (Fault::FearsFullStore, Ok(_), _) if before.row_count == MAX_ROWS => {
-                *world = before;
-                Err(number::WORLD)
-            }
-            (Fault::KeepsRefusedNews, Err(number), Some(told)) => {
-                world.news += told.news();
-                Err(number)
-            }
-            (Fault::AsksNewsBeforeRoom, Err(number::FULL), Some(told))
-                if told.total() > MAX_NEWS =>
-            {
-                Err(number::WORLD)
-            }
-            (_, answer, _) => answer,
-        }?;
+        let answer = self.play(world, store, ask);
+        let next = self.spoil_answer(answer, &before, world, told.as_ref())?;
         let (command, _) = Command::read(ask)?;
         self.spoil(&before, world, store, command);
+        self.write_past_rows(world, store);
         if let Some(told) = told {
+            self.0.deliver_again(&told, &before, world, store);
             world.news += self.miscounted(&told, &before, world);
         }
         Ok(next)
@@ -143,6 +156,33 @@ impl Faulty {
         }
     }
 
+    /// The answer with the faulty rule.
+    fn spoil_answer(
+        &self,
+        answer: Result<usize, u8>,
+        before: &World,
+        world: &mut World,
+        told: Option<&Delivery>,
+    ) -> Result<usize, u8> {
+        match (self.0, answer, told) {
+            (Fault::MistakesBadRow, Err(number::BAD_ROW), _) => Err(number::ROW),
+            (Fault::FearsFullStore, Ok(_), _) if before.row_count == MAX_ROWS => {
+                *world = *before;
+                Err(number::WORLD)
+            }
+            (Fault::KeepsRefusedNews, Err(_), Some(told)) => {
+                world.news += told.news();
+                answer
+            }
+            (Fault::AsksNewsBeforeRoom, Err(number::FULL), Some(told))
+                if told.total() > MAX_NEWS =>
+            {
+                Err(number::WORLD)
+            }
+            _ => answer,
+        }
+    }
+
     /// The same event with the faulty rule.
     fn spoil(&self, before: &World, world: &mut World, store: &mut [u8], command: Command) {
         let me = command.site();
@@ -150,22 +190,29 @@ impl Faulty {
             (Fault::KeepsVector, Command::Crash(_)) => {
                 world.sites[me].vector = before.sites[me].vector;
             }
-            (
-                Fault::ComesBackActive | Fault::ComesBackLeading | Fault::TellsOfRestart,
-                Command::Recover(_),
-            ) if before.sites[me].log == Log::EMPTY => self.restart(before, world, store, me),
-            (Fault::CountsAllEntries, Command::Timeout(_)) => count_all(before, world, store, me),
-            (Fault::TakesThreeForPrepare, Command::Timeout(_)) => {
-                take_for_prepares(before, world, store, me)
-            }
+            (_, Command::Recover(_)) => self.restart(before, world, store, me),
+            (_, Command::Timeout(_)) => self.decide_again(before, world, store, me),
             (Fault::LeavesAbortGroup, Command::Deliver { row, .. })
                 if store[row * ROW_BYTES] == Kind::Join(Side::Commit).byte() =>
             {
                 leave_abort_group(before, world, store, me)
             }
-            (Fault::WritesPastRows, _) if world.row_count < MAX_ROWS => {
-                store[world.row_count * ROW_BYTES] ^= 1
-            }
+            _ => {}
+        }
+    }
+
+    /// The byte after the last row, if the store has it.
+    fn write_past_rows(&self, world: &World, store: &mut [u8]) {
+        if self.0 == Fault::WritesPastRows && world.row_count < MAX_ROWS {
+            store[world.row_count * ROW_BYTES] ^= 1
+        }
+    }
+
+    /// TIMEOUT at a coordinator.
+    fn decide_again(&self, before: &World, world: &mut World, store: &mut [u8], me: usize) {
+        match self.0 {
+            Fault::CountsAllEntries => count_all(before, world, store, me),
+            Fault::TakesThreeForPrepare => take_for_prepares(before, world, store, me),
             _ => {}
         }
     }
@@ -177,14 +224,18 @@ impl Faulty {
             Fault::CountsOwnEntry => told.tells_own().into(),
             Fault::CountsOwnChange => (state(before) != state(after)).into(),
             Fault::CountsEqualEntry => told.same_levels().len(),
+            Fault::CountsSenderTwice => told.raises_sender().into(),
             _ => 0,
         }
     }
 
-    /// RECOVER with an empty log.
+    /// RECOVER, if the log is empty.
     fn restart(&self, before: &World, world: &mut World, store: &mut [u8], me: usize) {
         let held = &before.sites[me];
         let site = &mut world.sites[me];
+        if held.log != Log::EMPTY {
+            return;
+        }
         match self.0 {
             Fault::ComesBackActive => *site = Site { up: true, ..*held },
             Fault::ComesBackLeading => site.role = held.role,

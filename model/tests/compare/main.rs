@@ -25,7 +25,7 @@ use model::{number, play_list, Numbers};
 
 use common::{M3_LIST, M3_REPORT};
 use comparer::Comparer;
-use faults::{Fault, Faulty, FAULTS};
+use faults::{faults, Fault, Faulty, SENDER_FAULTS};
 use ffi::Library;
 
 const SEED: u64 = 20_261_115;
@@ -162,16 +162,34 @@ const NEWS: &[&str] = &[
     "15 a refused row's news",
 ];
 
-/// How often the generated calls must have met each thing about the news, and the
-/// generated reports news over the limit.
+/// What document 02 says of a row's sender, whose entry is taken first: whichever
+/// entries rise, whoever sent it, the lowest site decides. Each must be hit by a
+/// call made by hand for it.
+const SENDERS: &[&str] = &[
+    "0 sender: its entry alone",
+    "0 sender: its entry and others",
+    "0 sender: others alone",
+    "0 sender: site 0, by another",
+    "0 sender: the receiver",
+    "0 sender: the receiver, of outcomes",
+    "0 sender: the receiver, a join",
+    "0 sender: a join",
+    "0 sender: the lowest site decides",
+    "0 sender: any of sixteen",
+];
+
+/// How often the generated calls must have met each thing about the news and the
+/// sender, and the generated reports news over the limit.
 const LEAST_MET: usize = 100;
 
 /// The least that is asked for of the lists compared: in how many of a hundred
 /// each sight is had, and in how many of a hundred of the longer lists.
-const LEAST: [(Sight, usize, usize); 11] = [
+const LEAST: [(Sight, usize, usize); 13] = [
     (Sight::Repeat, 30, 90),
     (Sight::IdleDelivery, 30, 90),
     (Sight::MuchNews, 30, 90),
+    (Sight::SenderAndOthers, 30, 90),
+    (Sight::OthersAlone, 10, 90),
     (Sight::SeveralLeaders, 30, 90),
     (Sight::FullStore, 1, 60),
     (Sight::CrashMidway, 10, 40),
@@ -194,6 +212,7 @@ fn made_by_hand(both: &mut Comparer) -> Result<(), String> {
     directed::every_byte(both)?;
     directed::commands(both)?;
     directed::news(both)?;
+    directed::senders(both)?;
     directed::reports(both)
 }
 
@@ -255,6 +274,10 @@ fn print(both: &Comparer) {
     for (number, count) in &both.numbers {
         println!("number {number:2} seen {count:8}");
     }
+    print_clauses(both);
+}
+
+fn print_clauses(both: &Comparer) {
     for (name, count) in &both.clauses {
         println!("clause {name}: {count}");
     }
@@ -269,15 +292,24 @@ fn library_and_model_agree() {
     }
     print(&both);
     println!("no difference in {:.1} s", start.elapsed().as_secs_f64());
-    // The numbers after this one are those of lines.
+    assert_seen(&both);
+    assert_hit(&both);
+    assert_rich(&both);
+    assert_met(&both);
+}
+
+/// Every number is seen, but for those of lines, which come after these.
+fn assert_seen(both: &Comparer) {
     for number in 0..=number::BUFFER.into() {
         assert!(both.numbers.contains_key(&number), "{number} never seen");
     }
-    for name in [CLAUSES, RECOVERIES, NEWS].concat() {
+}
+
+/// Every clause is hit.
+fn assert_hit(both: &Comparer) {
+    for name in [CLAUSES, RECOVERIES, NEWS, SENDERS].concat() {
         assert!(both.clauses.contains_key(name), "{name} never hit");
     }
-    assert_rich(&both);
-    assert_newsy(&both);
 }
 
 /// There are many lists, many of them long, and much happens in them.
@@ -291,8 +323,8 @@ fn assert_rich(both: &Comparer) {
     }
 }
 
-/// The generated calls and reports met all there is about the news.
-fn assert_newsy(both: &Comparer) {
+/// The generated calls and reports met all there is about the news and the sender.
+fn assert_met(both: &Comparer) {
     for meeting in Meeting::ALL {
         let count = both.meetings.get(&meeting).copied().unwrap_or(0);
         assert!(count >= LEAST_MET, "{meeting:?} is rare");
@@ -326,17 +358,32 @@ fn the_library_writes_the_report_of_the_paper() {
 fn a_fault_in_the_model_is_noticed() {
     let sound = compare(&mut Comparer::new(&Library, &Faulty(Fault::None)), &PART);
     assert_eq!(sound, Ok(()));
-    for fault in FAULTS {
+    for fault in faults() {
         let faulty = Faulty(fault);
         let by_hand = made_by_hand(&mut Comparer::new(&Library, &faulty));
         let drawn = generated(&mut Comparer::new(&Library, &faulty), &PART);
-        for (way, found) in [("by hand", by_hand), ("generated", drawn)] {
-            let Err(why) = found else {
-                panic!("{fault:?} is not noticed {way}");
-            };
-            println!("{fault:?} noticed {way}: {}", in_short(&why));
-        }
+        assert_noticed(fault, "by hand", by_hand);
+        assert_noticed(fault, "generated", drawn);
     }
+    println!("{} faults noticed", faults().count());
+}
+
+/// The calls made by hand for the sender notice its faults by themselves.
+#[test]
+fn a_fault_of_the_sender_is_noticed_by_its_own_calls() {
+    for fault in SENDER_FAULTS {
+        let faulty = Faulty(fault);
+        let found = directed::senders(&mut Comparer::new(&Library, &faulty));
+        assert_noticed(fault, "by the sender's calls", found);
+    }
+}
+
+/// A difference is found, in one way.
+fn assert_noticed(fault: Fault, way: &str, found: Result<(), String>) {
+    let Err(why) = found else {
+        panic!("{fault:?} is not noticed {way}");
+    };
+    println!("{fault:?} noticed {way}: {}", in_short(&why));
 }
 
 /// A difference on one line, its long parts cut.

@@ -9,11 +9,10 @@ use lib.ListN.{length, getD}
 use borrow.Author.Tests.{ltb-true, leb-true, leb-false, eqb-false}
 use Rattle.choice.specs.Choice.{pick}
 use Rattle.choice.specs.laws.ChoiceLaws.{pick-ind}
-use Rattle.merging.specs.Merging.{merging}
-use Rattle.merging.specs.laws.News.{risen-others}
+use Rattle.merging.specs.laws.News.{merging-news, risen-others}
 use Rattle.row.specs.declared.Row.{Row}
 use Rattle.row.specs.Rows.{getRow}
-use Rattle.rules.specs.Rules.{Move, start, timeout, bringing, deliver, crash, recover}
+use Rattle.rules.specs.Rules.{Move, start, timeout, bringing, afterHearing, deliver, crash, recover}
 use Rattle.command.specs.declared.Command.{Command}
 use Rattle.command.specs.declared.Command.the-variants as Command·
 use Rattle.command.specs.declared.Reading.{Reading}
@@ -133,10 +132,15 @@ module _ (w : World) (store list : List ℕ) (at : ℕ) where
   -- a delivery raises no entry of its own site
   deliver-told : (next i : ℕ) (row : Row) → i < w .n → at + 4 ≤ next →
       Told w at next (deliver i (w .n) (isWilling w i) row (siteOf w i) .step .news)
-  unfolding deliver bringing merging
+  unfolding deliver afterHearing bringing
   deliver-told next i row below four =
       record {
-        others = omega (arith, risen-others (w .n) i (row .codes) (siteOf w i .codes) below);
+        others =
+            omega (
+              arith,
+              merging-news (w .n) i (row .sender) (row .codes) (siteOf w i .codes) (w .n) (omega arith),
+              risen-others (w .n) (w .n) i (row .codes) (siteOf w i .codes) below,
+            );
         four = λ _. four;
       }
 

@@ -1,110 +1,189 @@
--- Laws of merge, entry by entry.
-use Prim.Native.Nat.{ℕ, zero, suc, _≤_, _<_}
+-- Laws of merging, entry by entry: in every order that takes each other site once, the same.
+use Prim.Native.Nat.{ℕ, _≤_, _<_}
 use mathlib.Core.Bool.{true, false, false≢true}
-use mathlib.Core.List.{List}
+use mathlib.Core.List.{List, [], _∷_}
 use mathlib.Core.Path.{_≡_, refl, ap, sym, _∙_}
 use native.Mathlib.Omega.{arith}
-use lib.Dec.{ltb, eqb}
+use lib.Dec.{ltb}
 use lib.ListN.{length, getD, set, length-set}
-use lib.Seq.{getD-set-other, ext-getD}
-use borrow.Author.Tests.{eq-eqb, ne-eqb, ltb-true, ltb-false}
+use lib.Seq.{getD-set-same, getD-set-other, set-getD}
+use borrow.Author.Tests.{le-ltb, ltb-true, ltb-false}
 use Rattle.choice.specs.Choice.{pick}
-use Rattle.choice.specs.laws.ChoiceLaws.{pick-ind, pick-on, pick-off, set-ind}
+use Rattle.choice.specs.laws.ChoiceLaws.{pick-ind, pick-on, pick-off}
 use Rattle.choice.specs.laws.Cases.{by-test, by-equal}
 use Rattle.vector.specs.Codes.{level}
-use Rattle.merging.specs.Merging.{rises, mergeEntry, merge}
-
-pub merge-length : (n own : ℕ) (said v : List ℕ) → length (merge n own said v) ≡ length v
-unfolding merge
-merge-length zero own said v = refl
-merge-length (suc k) own said v = simp length-set (merge-length k own said v)
-
--- entries from n on stay
-pub merge-else : (n own : ℕ) (said v : List ℕ) (i : ℕ) → n ≤ i → getD (merge n own said v) i 0 ≡ getD v i 0
-unfolding merge
-merge-else zero own said v i h = refl
-merge-else (suc k) own said v i h =
-    getD-set-other (merge k own said v) k i (mergeEntry own k (getD (merge k own said v) k 0) (getD said k 0)) 0 (omega arith)
-    ∙ merge-else k own said v i (omega arith)
-
--- entries below n are merged
-pub merge-at :
-    (n own : ℕ) (said v : List ℕ) (i : ℕ) → i < n → n ≤ length v →
-    getD (merge n own said v) i 0 ≡ mergeEntry own i (getD v i 0) (getD said i 0)
-unfolding merge
-merge-at zero own said v i h room = absurd (omega arith)
-merge-at (suc k) own said v i h room =
-    set-ind (λ x. x ≡ mergeEntry own i (getD v i 0) (getD said i 0)) (merge k own said v) k i
-    (mergeEntry own k (getD (merge k own said v) k 0) (getD said k 0)) 0 (rw merge-length (omega arith))
-    (λ e. rw (e, merge-else k own said v k (omega arith)))
-    (λ e. merge-at k own said v i (omega arith) (omega arith))
-
--- the receiver's own entry does not rise
-pub rises-own : (own held said : ℕ) → rises own own held said ≡ false
-unfolding rises
-rises-own own held said = simp (eq-eqb own own refl)
-
--- any other does with the higher level
-pub rises-other : (own k held said : ℕ) → (k ≡ own → ⊥) → rises own k held said ≡ ltb (level held) (level said)
-unfolding rises
-rises-other own k held said h = simp (ne-eqb k own h)
+use Rattle.merging.specs.declared.Merged.{Merged}
+use Rattle.merging.specs.Merging.{
+  rises,
+  mergeEntry,
+  takeEntry,
+  takeEntries,
+  mergingInOrder,
+  isOther,
+  senderFirst,
+  merging,
+  takes,
+  TakesOthersOnce,
+}
+use Rattle.merging.specs.laws.Orders.{other-on, other-below, other-unlike, takes-here, takes-there, sender-first-once}
 
 -- an entry that rises has another code then, and any other the same
 
-rises-higher : (own k held said : ℕ) → rises own k held said ≡ true → level held < level said
-unfolding rises
-rises-higher own k held said =
-    pick-ind (λ t. t ≡ true → level held < level said) (eqb k own) false (ltb (level held) (level said))
-    (λ _ e. absurd (false≢true e)) (λ _ e. ltb-true (level held) (level said) e)
+pub entry-changed : (held said : ℕ) → rises held said ≡ true → held ≡ mergeEntry held said → ⊥
+unfolding rises mergeEntry
+entry-changed held said e same =
+    omega (arith, ltb-true (level held) (level said) e, ap level (same ∙ pick-on (rises held said) said held e))
 
-pub entry-changed : (own k held said : ℕ) → rises own k held said ≡ true → held ≡ mergeEntry own k held said → ⊥
+pub entry-kept : (held said : ℕ) → rises held said ≡ false → held ≡ mergeEntry held said
 unfolding mergeEntry
-entry-changed own k held said e same =
-    omega (arith, rises-higher own k held said e, ap level (same ∙ pick-on (rises own k held said) said held e))
+entry-kept held said e = sym (pick-off (rises held said) said held e)
 
-pub entry-kept : (own k held said : ℕ) → rises own k held said ≡ false → held ≡ mergeEntry own k held said
-unfolding mergeEntry
-entry-kept own k held said e = sym (pick-off (rises own k held said) said held e)
+-- an entry cannot rise twice
+rises-once : (held said : ℕ) → rises (mergeEntry held said) said ≡ false
+unfolding mergeEntry rises
+rises-once held said =
+    pick-ind (λ x. rises x said ≡ false) (rises held said) said held
+    (λ _. le-ltb (level said) (level said) (omega arith)) (λ e. e)
 
--- the receiver's own entry stays
-pub entry-own : (own held said : ℕ) → mergeEntry own own held said ≡ held
-unfolding mergeEntry
-entry-own own held said = rw (rises-own own held said)
+-- the same vector and the same news
+pub merged-same : (a b : Merged) → a .codes ≡ b .codes → a .news ≡ b .news → a ≡ b
+merged-same a b p q = λ i. record { codes = p i; news = q i }
 
--- any other has the code of the higher level
-entry-other :
-    (own k held said : ℕ) → (k ≡ own → ⊥) → mergeEntry own k held said ≡ pick (ltb (level held) (level said)) said held
-unfolding mergeEntry
-entry-other own k held said h = rw (rises-other own k held said h)
+taken-length : (order said : List ℕ) (m : Merged) → length (takeEntries said order m .codes) ≡ length (m .codes)
+unfolding takeEntries takeEntry
+taken-length [] said m = refl
+taken-length (k ∷ order) said m =
+    taken-length order said (takeEntry said k m)
+    ∙ length-set (m .codes) k (mergeEntry (getD (m .codes) k 0) (getD said k 0))
 
--- one entry more, where none below n is the receiver's
-pub merge-on :
-    (k n : ℕ) (said v merged : List ℕ) (code : ℕ) → k < n → merged ≡ merge k n said v →
-    code ≡ pick (ltb (level (getD merged k 0)) (level (getD said k 0))) (getD said k 0) (getD merged k 0) →
-    set merged k code ≡ merge (suc k) n said v
-unfolding merge
-merge-on k n said v merged code below e f =
-    rw (← e) (ap (set merged k) (f ∙ sym (entry-other n k (getD merged k 0) (getD said k 0) (λ g. omega arith))))
+-- one entry taken leaves the others
+pub taken-other :
+    (said : List ℕ) (j : ℕ) (m : Merged) (k : ℕ) → (k ≡ j → ⊥) → getD (takeEntry said j m .codes) k 0 ≡ getD (m .codes) k 0
+unfolding takeEntry
+taken-other said j m k e = getD-set-other (m .codes) j k (mergeEntry (getD (m .codes) j 0) (getD said j 0)) 0 e
 
--- an entry that is neither receiver's
-merge-other :
-    (n own own′ : ℕ) (said v : List ℕ) (i : ℕ) → n ≤ length v → (i ≡ own → ⊥) → (i ≡ own′ → ⊥) →
-    getD (merge n own said v) i 0 ≡ getD (merge n own′ said v) i 0
-merge-other n own own′ said v i room a b =
-    by-test (ltb i n)
-    (λ e. merge-at n own said v i (ltb-true i n e) room ∙ entry-other own i (getD v i 0) (getD said i 0) a
-    ∙ sym (entry-other own′ i (getD v i 0) (getD said i 0) b) ∙ sym (merge-at n own′ said v i (ltb-true i n e) room))
-    (λ e. merge-else n own said v i (ltb-false i n e) ∙ sym (merge-else n own′ said v i (ltb-false i n e)))
+-- an entry that an order does not take stays
+taken-else :
+    (order said : List ℕ) (m : Merged) (k : ℕ) → takes k order ≡ 0 →
+    getD (takeEntries said order m .codes) k 0 ≡ getD (m .codes) k 0
+unfolding takeEntries
+taken-else [] said m k none = refl
+taken-else (j ∷ order) said m k none =
+    by-equal k j
+    (λ e. absurd (omega (arith, takes-here k j order e)))
+    (λ e. taken-else order said (takeEntry said j m) k (sym (takes-there k j order e) ∙ none) ∙ taken-other said j m k e)
 
--- merged for every site below n, and the receiver's own entry put back
-pub merge-put-back :
-    (n own : ℕ) (said v : List ℕ) → own < n → n ≤ length v →
-    set (merge n n said v) own (getD v own 0) ≡ merge n own said v
-merge-put-back n own said v below room =
-    ext-getD 0 (set (merge n n said v) own (getD v own 0)) (merge n own said v)
-    (length-set (merge n n said v) own (getD v own 0) ∙ merge-length n n said v ∙ sym (merge-length n own said v))
-    (λ i h. set-ind (λ x. x ≡ getD (merge n own said v) i 0) (merge n n said v) own i (getD v own 0) 0
-    (rw merge-length (omega arith))
-    (λ e. rw e (sym (merge-at n own said v own below room ∙ entry-own own (getD v own 0) (getD said own 0))))
-    (λ e. by-equal i n (λ f. rw f (merge-else n n said v n (omega arith) ∙ sym (merge-else n own said v n (omega arith))))
-    (λ f. merge-other n n own said v i room f e)))
+-- the entry taken is merged
+taken-here :
+    (said : List ℕ) (m : Merged) (k : ℕ) → k < length (m .codes) →
+    getD (takeEntry said k m .codes) k 0 ≡ mergeEntry (getD (m .codes) k 0) (getD said k 0)
+unfolding takeEntry
+taken-here said m k room = getD-set-same (m .codes) k (mergeEntry (getD (m .codes) k 0) (getD said k 0)) 0 room
+
+-- an entry that does not rise is left, and adds nothing
+taken-idle :
+    (said : List ℕ) (k : ℕ) (m : Merged) → rises (getD (m .codes) k 0) (getD said k 0) ≡ false → takeEntry said k m ≡ m
+unfolding takeEntry
+taken-idle said k m e =
+    merged-same (takeEntry said k m) m
+    (ap (set (m .codes) k) (sym (entry-kept (getD (m .codes) k 0) (getD said k 0) e)) ∙ set-getD (m .codes) k 0)
+    (rw e (omega arith))
+
+-- one that cannot rise never does
+idle-on :
+    (order said : List ℕ) (m : Merged) (k : ℕ) → k < length (m .codes) → rises (getD (m .codes) k 0) (getD said k 0) ≡ false →
+    rises (getD (takeEntries said order m .codes) k 0) (getD said k 0) ≡ false
+unfolding takeEntries
+idle-on [] said m k room idle = idle
+idle-on (j ∷ order) said m k room idle =
+    idle-on order said (takeEntry said j m) k (rw (taken-length (j ∷ []) said m) room)
+    (by-equal k j
+    (λ e. ap (λ x. rises (getD (takeEntry said x m .codes) k 0) (getD said k 0)) (sym e)
+    ∙ ap (λ x. rises (getD (x .codes) k 0) (getD said k 0)) (taken-idle said k m idle) ∙ idle)
+    (λ e. ap (λ x. rises x (getD said k 0)) (taken-other said j m k e) ∙ idle))
+
+-- once taken, it cannot rise again
+taken-idles :
+    (order said : List ℕ) (m : Merged) (k : ℕ) → k < length (m .codes) → 1 ≤ takes k order →
+    rises (getD (takeEntries said order m .codes) k 0) (getD said k 0) ≡ false
+unfolding takeEntries takes
+taken-idles [] said m k room some = absurd (omega arith)
+taken-idles (j ∷ order) said m k room some =
+    by-equal k j
+    (λ e. idle-on order said (takeEntry said j m) k (rw (taken-length (j ∷ []) said m) room)
+    (ap (λ x. rises (getD (takeEntry said x m .codes) k 0) (getD said k 0)) (sym e)
+    ∙ ap (λ x. rises x (getD said k 0)) (taken-here said m k room) ∙ rises-once (getD (m .codes) k 0) (getD said k 0)))
+    (λ e. taken-idles order said (takeEntry said j m) k (rw (taken-length (j ∷ []) said m) room)
+    (rw (← takes-there k j order e) some))
+
+-- so an entry that was taken before changes nothing
+pub taken-again :
+    (order said : List ℕ) (m : Merged) (k : ℕ) → k < length (m .codes) → 1 ≤ takes k order →
+    takeEntry said k (takeEntries said order m) ≡ takeEntries said order m
+taken-again order said m k room some = taken-idle said k (takeEntries said order m) (taken-idles order said m k room some)
+
+-- one that an order takes once is merged
+taken-once :
+    (order said : List ℕ) (m : Merged) (k : ℕ) → k < length (m .codes) → takes k order ≡ 1 →
+    getD (takeEntries said order m .codes) k 0 ≡ mergeEntry (getD (m .codes) k 0) (getD said k 0)
+unfolding takeEntries takes
+taken-once [] said m k room once = absurd (omega arith)
+taken-once (j ∷ order) said m k room once =
+    by-equal k j
+    (λ e. taken-else order said (takeEntry said j m) k (omega (arith, takes-here k j order e))
+    ∙ ap (λ x. getD (takeEntry said x m .codes) k 0) (sym e) ∙ taken-here said m k room)
+    (λ e. taken-once order said (takeEntry said j m) k (rw (taken-length (j ∷ []) said m) room)
+    (sym (takes-there k j order e) ∙ once)
+    ∙ ap (λ x. mergeEntry x (getD said k 0)) (taken-other said j m k e))
+
+-- a site that is no other is not taken
+pub none-taken : {n own : ℕ} {order : List ℕ} → TakesOthersOnce n own order → (k : ℕ) → isOther n own k ≡ false → takes k order ≡ 0
+none-taken {n} {own} {order} once k e =
+    by-equal k own
+    (λ same. ap (λ x. takes x order) same ∙ once .not-own)
+    (λ unlike. once .none-beyond k (ltb-false k n (by-test (ltb k n)
+    (λ below. absurd (false≢true (sym e ∙ other-on n own k (ltb-true k n below) unlike))) (λ above. above))))
+
+pub merged-length : (order said v : List ℕ) → length (mergingInOrder order said v .codes) ≡ length v
+unfolding mergingInOrder
+merged-length order said v = taken-length order said (record { codes = v; news = 0 })
+
+-- MERGED, entry by entry, in any order that takes each other site once
+pub merged-entry :
+    {n own : ℕ} {order : List ℕ} → TakesOthersOnce n own order → (said v : List ℕ) (k : ℕ) → k < length v →
+    getD (mergingInOrder order said v .codes) k 0 ≡ pick (isOther n own k) (mergeEntry (getD v k 0) (getD said k 0)) (getD v k 0)
+unfolding mergingInOrder
+merged-entry {n} {own} {order} once said v k room =
+    pick-ind (λ x. getD (mergingInOrder order said v .codes) k 0 ≡ x) (isOther n own k)
+    (mergeEntry (getD v k 0) (getD said k 0)) (getD v k 0)
+    (λ e. taken-once order said (record { codes = v; news = 0 }) k room
+    (omega (arith, once .others k (other-below n own k e) (other-unlike n own k e))))
+    (λ e. taken-else order said (record { codes = v; news = 0 }) k (none-taken once k e))
+
+-- and in the definition's
+
+pub merging-length : (n own sender : ℕ) (said v : List ℕ) → length (merging n own sender said v .codes) ≡ length v
+unfolding merging
+merging-length n own sender said v = merged-length (senderFirst n own sender) said v
+
+pub merging-entry :
+    (n own sender : ℕ) (said v : List ℕ) (k : ℕ) → k < length v →
+    getD (merging n own sender said v .codes) k 0
+    ≡ pick (isOther n own k) (mergeEntry (getD v k 0) (getD said k 0)) (getD v k 0)
+unfolding merging
+merging-entry n own sender said v k room = merged-entry (sender-first-once n own sender) said v k room
+
+pub merging-at :
+    (n own sender : ℕ) (said v : List ℕ) (k : ℕ) → k < length v → k < n → (k ≡ own → ⊥) →
+    getD (merging n own sender said v .codes) k 0 ≡ mergeEntry (getD v k 0) (getD said k 0)
+merging-at n own sender said v k room below unlike =
+    merging-entry n own sender said v k room
+    ∙ pick-on (isOther n own k) (mergeEntry (getD v k 0) (getD said k 0)) (getD v k 0) (other-on n own k below unlike)
+
+-- what is not taken stays, whatever the vector's length
+pub merging-else :
+    (n own sender : ℕ) (said v : List ℕ) (k : ℕ) → isOther n own k ≡ false →
+    getD (merging n own sender said v .codes) k 0 ≡ getD v k 0
+unfolding merging mergingInOrder
+merging-else n own sender said v k e =
+    taken-else (senderFirst n own sender) said (record { codes = v; news = 0 }) k (none-taken (sender-first-once n own sender) k e)

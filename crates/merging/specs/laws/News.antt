@@ -1,154 +1,164 @@
--- Laws of the news: how many entries rise in a merge, counted in sixteen noughts and ones.
+-- Laws of the news: how many entries rise, whatever the order.
 use Prim.Native.Nat.{ℕ, zero, suc, _+_, _≤_, _<_}
-use mathlib.Core.List.{List}
+use mathlib.Core.Bool.{true}
+use mathlib.Core.List.{List, [], _∷_}
 use mathlib.Core.Path.{_≡_, refl, ap, sym, _∙_}
 use native.Mathlib.Omega.{arith}
-use lib.Dec.{ltb}
-use lib.ListN.{length, getD, set, replicate, length-set, length-replicate, getD-replicate}
-use lib.Seq.{getD-set-same, getD-set-other, ext-getD}
-use borrow.Author.Tests.{ltb-true, ltb-false}
+use lib.Dec.{ltb, eqb}
+use lib.ListN.{getD}
+use borrow.Author.Tests.{eq-eqb, ne-eqb, ltb-true, ltb-false}
 use Rattle.choice.specs.Choice.{pick}
-use Rattle.choice.specs.laws.ChoiceLaws.{pick-ind, set-ind}
+use Rattle.choice.specs.laws.ChoiceLaws.{pick-ind}
 use Rattle.choice.specs.laws.Cases.{by-test, by-equal}
-use Rattle.vector.specs.Codes.{level}
-use Rattle.merging.specs.Merging.{rises, merge, risen, merging}
-use Rattle.merging.specs.laws.MergeLaws.{rises-own, rises-other, merge-else, merge-put-back}
+use Rattle.choice.specs.laws.Stores.{sumTo, sum-same}
+use Rattle.merging.specs.declared.Merged.{Merged}
+use Rattle.merging.specs.Merging.{rises, takeEntry, takeEntries, mergingInOrder, isOther, merging, takes, TakesOthersOnce}
+use Rattle.merging.specs.laws.Orders.{other-own, other-below, other-unlike, takes-here, takes-there, sender-first-once}
+use Rattle.merging.specs.laws.MergeLaws.{taken-other, none-taken}
 
--- the sum of the entries below k
-unfoldable pub sumTo : ℕ → List ℕ → ℕ
-sumTo zero v = 0
-sumTo (suc k) v = sumTo k v + getD v k 0
+-- 1 if the entry of site k rises
+unfoldable pub gain : List ℕ → List ℕ → ℕ → ℕ
+gain said v k = pick (rises (getD v k 0) (getD said k 0)) 1 0
 
--- sixteen entries: 1 for each site below n whose entry rises
-unfoldable pub roseTo : ℕ → ℕ → List ℕ → List ℕ → List ℕ
-roseTo zero own said v = replicate 16 0
-roseTo (suc k) own said v = set (roseTo k own said v) k (pick (rises own k (getD v k 0) (getD said k 0)) 1 0)
+-- what the entry of site k adds to the news of a delivery: 1 if it is another site's, and rises
+unfoldable pub share : ℕ → ℕ → List ℕ → List ℕ → ℕ → ℕ
+share n own said v k = pick (isOther n own k) (gain said v k) 0
 
-rose-length : (k own : ℕ) (said v : List ℕ) → length (roseTo k own said v) ≡ 16
-unfolding roseTo
-rose-length zero own said v = length-replicate {A = ℕ} 16 0
-rose-length (suc k) own said v = simp length-set (rose-length k own said v)
+-- HOW MANY entries of other sites below m rise
+unfoldable pub risen : ℕ → ℕ → ℕ → List ℕ → List ℕ → ℕ
+risen m n own said v = sumTo (share n own said v) m
 
--- none is counted from k on
-rose-else : (k own : ℕ) (said v : List ℕ) (i : ℕ) → k ≤ i → i < 16 → getD (roseTo k own said v) i 0 ≡ 0
-unfolding roseTo
-rose-else zero own said v i h room = getD-replicate 16 i 0 0 room
-rose-else (suc k) own said v i h room =
-    getD-set-other (roseTo k own said v) k i (pick (rises own k (getD v k 0) (getD said k 0)) 1 0) 0 (omega arith)
-    ∙ rose-else k own said v i (omega arith) room
+-- a sum over an order, and over its takings of site k
+module _ (g : ℕ → ℕ) where
+  unfoldable sumOver : List ℕ → ℕ
+  sumOver [] = 0
+  sumOver (j ∷ order) = g j + sumOver order
 
--- below k those that rise are
-rose-at :
-    (k own : ℕ) (said v : List ℕ) (i : ℕ) → i < k → k ≤ 16 →
-    getD (roseTo k own said v) i 0 ≡ pick (rises own i (getD v i 0) (getD said i 0)) 1 0
-unfolding roseTo
-rose-at zero own said v i h room = absurd (omega arith)
-rose-at (suc k) own said v i h room =
-    set-ind (λ x. x ≡ pick (rises own i (getD v i 0) (getD said i 0)) 1 0) (roseTo k own said v) k i
-    (pick (rises own k (getD v k 0) (getD said k 0)) 1 0) 0 (rw rose-length (omega arith))
-    (λ e. rw e) (λ e. rose-at k own said v i (omega arith) (omega arith))
+  unfoldable sumAt : List ℕ → ℕ → ℕ
+  sumAt [] k = 0
+  sumAt (j ∷ order) k = pick (eqb k j) (g j) 0 + sumAt order k
 
--- each is 0 or 1
-rose-small : (k own : ℕ) (said v : List ℕ) (i : ℕ) → k ≤ 16 → i < 16 → getD (roseTo k own said v) i 0 ≤ 1
-rose-small k own said v i most room =
-    by-test (ltb i k)
-    (λ l. rw (rose-at k own said v i (ltb-true i k l) most)
-    (pick-ind (λ x. x ≤ 1) (rises own i (getD v i 0) (getD said i 0)) 1 0 (λ _. omega arith) (λ _. omega arith)))
-    (λ l. rw (rose-else k own said v i (ltb-false i k l) room) (omega arith))
+  at-here : (k j : ℕ) (order : List ℕ) → k ≡ j → sumAt (j ∷ order) k ≡ g j + sumAt order k
+  unfolding sumAt
+  at-here k j order e = rw (eq-eqb k j e)
 
--- a step of the loop that merges as if none below n were the receiver's
-pub rose-on :
-    (k n : ℕ) (said v merged rose : List ℕ) (more : ℕ) → k < n → merged ≡ merge k n said v → rose ≡ roseTo k n said v →
-    more ≡ pick (ltb (level (getD merged k 0)) (level (getD said k 0))) 1 0 → set rose k more ≡ roseTo (suc k) n said v
-unfolding roseTo
-rose-on k n said v merged rose more below e f g =
-    let held : getD merged k 0 ≡ getD v k 0 = rw e (merge-else k n said v k (omega arith)) in
-    rw (f, g, held, rises-other n k (getD v k 0) (getD said k 0) (λ h. omega arith))
+  at-there : (k j : ℕ) (order : List ℕ) → (k ≡ j → ⊥) → sumAt (j ∷ order) k ≡ sumAt order k
+  unfolding sumAt
+  at-there k j order e = rw (ne-eqb k j e) (omega arith)
 
--- an entry that is neither receiver's
-rose-other :
-    (n own other : ℕ) (said v : List ℕ) (i : ℕ) → n ≤ 16 → i < 16 → (i ≡ own → ⊥) → (i ≡ other → ⊥) →
-    getD (roseTo n own said v) i 0 ≡ getD (roseTo n other said v) i 0
-rose-other n own other said v i most room a b =
-    by-test (ltb i n)
-    (λ l. rw (
-      rose-at n own said v i (ltb-true i n l) most,
-      rose-at n other said v i (ltb-true i n l) most,
-      rises-other own i (getD v i 0) (getD said i 0) a,
-      rises-other other i (getD v i 0) (getD said i 0) b,
-    ))
-    (λ l. rose-else n own said v i (ltb-false i n l) room ∙ sym (rose-else n other said v i (ltb-false i n l) room))
+  at-none : (k : ℕ) (order : List ℕ) → takes k order ≡ 0 → sumAt order k ≡ 0
+  unfolding sumAt
+  at-none k [] none = refl
+  at-none k (j ∷ order) none =
+      by-equal k j
+      (λ e. absurd (omega (arith, takes-here k j order e)))
+      (λ e. at-there k j order e ∙ at-none k order (sym (takes-there k j order e) ∙ none))
 
--- counted for every site below n, and the receiver's own then not
-rose-but-own :
-    (n own : ℕ) (said v : List ℕ) → own < n → n ≤ 16 → set (roseTo n n said v) own 0 ≡ roseTo n own said v
-rose-but-own n own said v below most =
-    ext-getD 0 (set (roseTo n n said v) own 0) (roseTo n own said v)
-    (length-set (roseTo n n said v) own 0 ∙ rose-length n n said v ∙ sym (rose-length n own said v))
-    (λ i h. set-ind (λ x. x ≡ getD (roseTo n own said v) i 0) (roseTo n n said v) own i 0 0 (rw rose-length (omega arith))
-    (λ e. rw (e, rose-at n own said v own below most, rises-own own (getD v own 0) (getD said own 0)))
-    (λ e. let room : i < 16 = rw (length-set, rose-length) at h in
-    by-equal i n
-    (λ f. rw f (rose-else n n said v n (omega arith) (omega arith) ∙ sym (rose-else n own said v n (omega arith) (omega arith))))
-    (λ f. rose-other n n own said v i most room f e)))
+  at-once : (k : ℕ) (order : List ℕ) → takes k order ≡ 1 → sumAt order k ≡ g k
+  unfolding takes
+  at-once k [] once = absurd (omega arith)
+  at-once k (j ∷ order) once =
+      by-equal k j
+      (λ e. omega (arith, at-here k j order e, at-none k order (omega (arith, takes-here k j order e)), ap g e))
+      (λ e. at-there k j order e ∙ at-once k order (sym (takes-there k j order e) ∙ once))
 
--- a store from m on leaves the sum below m
-sum-else : (m : ℕ) (l : List ℕ) (i x : ℕ) → m ≤ i → sumTo m (set l i x) ≡ sumTo m l
-unfolding sumTo
-sum-else zero l i x h = refl
-sum-else (suc m) l i x h = omega (arith, sum-else m l i x (omega arith), getD-set-other l i m x 0 (λ e. omega arith))
+  below-off : (m j : ℕ) (order : List ℕ) → m ≤ j → sumTo (sumAt (j ∷ order)) m ≡ sumTo (sumAt order) m
+  unfolding sumTo
+  below-off zero j order h = refl
+  below-off (suc m) j order h = omega (arith, below-off m j order (omega arith), at-there m j order (λ e. omega arith))
 
--- and one below m in place of 0 adds to it
-sum-more :
-    (m : ℕ) (l : List ℕ) (i x : ℕ) → i < m → i < length l → getD l i 0 ≡ 0 → sumTo m (set l i x) ≡ sumTo m l + x
-unfolding sumTo
-sum-more zero l i x h room none = absurd (omega arith)
-sum-more (suc m) l i x h room none =
-    by-equal i m
-    (λ e. rw (← e) (omega (arith, sum-else i l i x (omega arith), getD-set-same l i x 0 room, none)))
-    (λ e. omega (arith, sum-more m l i x (omega arith) room none, getD-set-other l i m x 0 (λ f. e (sym f))))
+  below-on : (m j : ℕ) (order : List ℕ) → j < m → sumTo (sumAt (j ∷ order)) m ≡ g j + sumTo (sumAt order) m
+  unfolding sumTo
+  below-on zero j order h = absurd (omega arith)
+  below-on (suc m) j order h =
+      by-equal m j
+      (λ e. omega (arith, below-off m j order (omega arith), at-here m j order e))
+      (λ e. omega (arith, below-on m j order (omega arith), at-there m j order e))
 
-sum-rose : (k own : ℕ) (said v : List ℕ) → k ≤ 16 → sumTo 16 (roseTo k own said v) ≡ risen k own said v
-unfolding roseTo risen sumTo
-sum-rose zero own said v most = refl
-sum-rose (suc k) own said v most =
-    sum-more 16 (roseTo k own said v) k (pick (rises own k (getD v k 0) (getD said k 0)) 1 0) (omega arith)
-    (rw rose-length (omega arith)) (rose-else k own said v k (omega arith) (omega arith))
-    ∙ ap (λ x. x + pick (rises own k (getD v k 0) (getD said k 0)) 1 0) (sum-rose k own said v (omega arith))
+  below-none : (m : ℕ) → sumTo (sumAt []) m ≡ 0
+  unfolding sumTo sumAt
+  below-none zero = refl
+  below-none (suc m) = omega (arith, below-none m)
 
--- 0 or 1 stored leaves each of them 0 or 1
-pub rose-bits :
-    (n : ℕ) (said v rose : List ℕ) (j x : ℕ) → n ≤ 16 → rose ≡ roseTo n n said v → j < 16 → x ≤ 1 →
-    (i : ℕ) → i < 16 → getD (set rose j x) i 0 ≤ 1
-rose-bits n said v rose j x most f room bit i h =
-    set-ind (λ y. y ≤ 1) rose j i x 0 (rw (f, rose-length) room) (λ _. bit) (λ _. rw f (rose-small n n said v i most h))
+  -- an order that takes no site from m up
+  sum-by-site : (m : ℕ) (order : List ℕ) → ((k : ℕ) → m ≤ k → takes k order ≡ 0) → sumOver order ≡ sumTo (sumAt order) m
+  unfolding sumOver takes
+  sum-by-site m [] none = sym (below-none m)
+  sum-by-site m (j ∷ order) none =
+      by-test (ltb j m)
+      (λ h. omega (arith, below-on m j order (ltb-true j m h), sum-by-site m order (λ k high. omega (arith, none k high))))
+      (λ h. absurd (omega (arith, none j (ltb-false j m h), takes-here j j order refl)))
 
--- what the loop leaves, with the receiver's own entry put back and not counted
-pub merging-but-own :
-    (n own : ℕ) (said v merged rose : List ℕ) (news : ℕ) → own < n → n ≤ 16 → n ≤ length v → merged ≡ merge n n said v →
-    rose ≡ roseTo n n said v → news ≡ sumTo 16 (set rose own 0) →
-    record { codes = set merged own (getD v own 0); news = news } ≡ merging n own said v
+-- entries that are taken once at most add what they would at the beginning
+taken-news :
+    (order said : List ℕ) (m : Merged) (v : List ℕ) → ((k : ℕ) → takes k order ≤ 1) →
+    ((k : ℕ) → 1 ≤ takes k order → getD (m .codes) k 0 ≡ getD v k 0) →
+    takeEntries said order m .news ≡ m .news + sumOver (gain said v) order
+unfolding takeEntries takeEntry sumOver takes gain
+taken-news [] said m v few held = omega arith
+taken-news (j ∷ order) said m v few held =
+    omega (arith, taken-news order said (takeEntry said j m) v fewer later, this)
+  where
+    fewer : (k : ℕ) → takes k order ≤ 1
+    fewer k = omega (arith, few k)
+
+    later : (k : ℕ) → 1 ≤ takes k order → getD (takeEntry said j m .codes) k 0 ≡ getD v k 0
+    later k some =
+        by-equal k j
+        (λ e. absurd (omega (arith, few k, takes-here k j order e)))
+        (λ e. taken-other said j m k e ∙ held k (rw (takes-there k j order e) some))
+
+    this : takeEntry said j m .news ≡ m .news + gain said v j
+    this = ap (λ x. m .news + pick (rises x (getD said j 0)) 1 0) (held j (omega (arith, takes-here j j order refl)))
+
+-- THE NEWS of any order that takes each other site once
+module _ {n own : ℕ} {order : List ℕ} (once : TakesOthersOnce n own order) where
+  others-once : (k : ℕ) → isOther n own k ≡ true → takes k order ≡ 1
+  others-once k e = omega (arith, once .others k (other-below n own k e) (other-unlike n own k e))
+
+  taken-share : (said v : List ℕ) (k : ℕ) → sumAt (gain said v) order k ≡ share n own said v k
+  unfolding share
+  taken-share said v k =
+      pick-ind (λ x. sumAt (gain said v) order k ≡ x) (isOther n own k) (gain said v k) 0
+      (λ e. at-once (gain said v) k order (others-once k e)) (λ e. at-none (gain said v) k order (none-taken once k e))
+
+  once-at-most : (k : ℕ) → takes k order ≤ 1
+  once-at-most k =
+      by-test (isOther n own k)
+      (λ e. omega (arith, others-once k e)) (λ e. omega (arith, none-taken once k e))
+
+  pub merged-news : (said v : List ℕ) (m : ℕ) → n ≤ m → mergingInOrder order said v .news ≡ risen m n own said v
+  unfolding mergingInOrder risen
+  merged-news said v m high =
+      omega (
+        arith,
+        taken-news order said (record { codes = v; news = 0 }) v once-at-most (λ k _. refl),
+        sum-by-site (gain said v) m order (λ k h. once .none-beyond k (omega arith)),
+        sum-same (sumAt (gain said v) order) (share n own said v) m (λ k _. taken-share said v k),
+      )
+
+pub merging-news :
+    (n own sender : ℕ) (said v : List ℕ) (m : ℕ) → n ≤ m → merging n own sender said v .news ≡ risen m n own said v
 unfolding merging
-merging-but-own n own said v merged rose news below most room e f g =
-    rw (g, e, f, rose-but-own n own said v below most, sum-rose n own said v most, merge-put-back n own said v below room)
+merging-news n own sender said v m high = merged-news (sender-first-once n own sender) said v m high
 
 -- one entry adds at most one
-risen-step : (k own : ℕ) (said v : List ℕ) → risen (suc k) own said v ≤ risen k own said v + 1
-unfolding risen
-risen-step k own said v =
-    pick-ind (λ x. risen k own said v + x ≤ risen k own said v + 1) (rises own k (getD v k 0) (getD said k 0)) 1 0
-    (λ _. omega arith) (λ _. omega arith)
+pub share-small : (n own : ℕ) (said v : List ℕ) (k : ℕ) → share n own said v k ≤ 1
+unfolding share gain
+share-small n own said v k =
+    pick-ind (λ x. x ≤ 1) (isOther n own k) (gain said v k) 0
+    (λ _. pick-ind (λ x. x ≤ 1) (rises (getD v k 0) (getD said k 0)) 1 0 (λ _. omega arith) (λ _. omega arith)) (λ _. omega arith)
 
-risen-few : (k own : ℕ) (said v : List ℕ) → risen k own said v ≤ k
-unfolding risen
-risen-few zero own said v = omega arith
-risen-few (suc k) own said v = omega (arith, risen-step k own said v, risen-few k own said v)
+risen-few : (m n own : ℕ) (said v : List ℕ) → risen m n own said v ≤ m
+unfolding risen sumTo
+risen-few zero n own said v = omega arith
+risen-few (suc m) n own said v = omega (arith, share-small n own said v m, risen-few m n own said v)
 
 -- at most one for each site but the receiver
-pub risen-others : (k own : ℕ) (said v : List ℕ) → own < k → risen k own said v + 1 ≤ k
-unfolding risen
-risen-others zero own said v below = absurd (omega arith)
-risen-others (suc k) own said v below =
-    by-equal own k
-    (λ e. rw (e, rises-own k (getD v k 0) (getD said k 0)) (omega (arith, risen-few k k said v)))
-    (λ e. omega (arith, risen-step k own said v, risen-others k own said v (omega arith)))
+pub risen-others : (m n own : ℕ) (said v : List ℕ) → own < m → risen m n own said v + 1 ≤ m
+unfolding risen sumTo share
+risen-others zero n own said v below = absurd (omega arith)
+risen-others (suc m) n own said v below =
+    by-equal own m
+    (λ e. rw (e, other-own n m) (omega (arith, risen-few m n m said v)))
+    (λ e. omega (arith, share-small n own said v m, risen-others m n own said v (omega arith)))

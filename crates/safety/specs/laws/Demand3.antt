@@ -12,10 +12,11 @@ use Rattle.world.specs.declared.World.{World}
 use Rattle.world.specs.Sizes.{sizesNumber}
 use Rattle.world.specs.Worlds.{zeroWorld}
 use Rattle.play.specs.Run.{Ask, run}
+use Rattle.choice.specs.laws.Stores.{sumTo}
 use Rattle.safety.specs.Claims.{written, writtenAt, outcomes, Safe, Demand3, RefusedSizes}
 use Rattle.choice.specs.laws.Cases.{by-test, by-equal}
 use Rattle.safety.specs.laws.HistoryLaws.{some-site, written-at-sites, one-each}
-use Rattle.safety.specs.laws.Weights.{totalWeight, total-sites}
+use Rattle.safety.specs.laws.Weights.{total-sites}
 use Rattle.world.specs.laws.SizesLaws.{Sized, sized}
 use Rattle.safety.specs.laws.Truth.{Terms, AllPrepared, TrueHistory}
 use Rattle.safety.specs.laws.TruthLaws.{commit-prepared, not-both}
@@ -25,7 +26,7 @@ use Rattle.safety.specs.laws.Runs.{run-keeps, run-terms, run-stuck}
 
 -- a true history is safe, where a commit needs a site and the quorums together weigh more than all sites
 module _ (t : Terms) (H : List Written) (true-of : TrueHistory t H) (some : 1 ≤ t .commit)
-    (more : totalWeight (t .weight) (t .n) < t .commit + t .abort) where
+    (more : sumTo (t .weight) (t .n) < t .commit + t .abort) where
   committed-prepared : 1 ≤ written 4 H → AllPrepared (t .n) H
   committed-prepared h = from (some-site 4 H h)
     where

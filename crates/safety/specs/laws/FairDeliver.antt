@@ -10,7 +10,7 @@ use borrow.Author.Tests.{eqb-true}
 use Rattle.choice.specs.Choice.{pick}
 use Rattle.choice.specs.laws.ChoiceLaws.{pick-ind}
 use Rattle.vector.specs.Vector.{lowestOutcome}
-use Rattle.merging.specs.Merging.{merge, merging}
+use Rattle.merging.specs.Merging.{merging}
 use Rattle.row.specs.declared.Row.{Row}
 use Rattle.bits.specs.Bits.{hasBit}
 use Rattle.site.specs.declared.State.{State}
@@ -18,7 +18,7 @@ use Rattle.site.specs.declared.State.the-variants as State·
 use Rattle.site.specs.declared.Site.{Site}
 use Rattle.site.specs.State.{stateOf, isTerminated}
 use Rattle.site.specs.Records.{Written, wrote, prepareRecord, groupRecord, outcomeRecord, commit, abort, writePrepare, writeOutcome}
-use Rattle.rules.specs.Rules.{Noted, silent, replying, hear, adoptCode, adopt, voteIn, joinCommitIn, joinAbortIn, after, answer, bringing, deliver}
+use Rattle.rules.specs.Rules.{Noted, silent, replying, hear, adoptCode, adopt, voteIn, joinCommitIn, joinAbortIn, after, answer, bringing, afterHearing, deliver}
 use Rattle.safety.specs.Claims.{writtenAt}
 use Rattle.safety.specs.laws.HistoryLaws.{grown-append}
 use Rattle.safety.specs.laws.Weights.{weighRecords, outcome-from}
@@ -28,11 +28,12 @@ use Rattle.safety.specs.laws.Writing.{unprepared, grounded, writeRecord}
 use Rattle.safety.specs.laws.Fair.{Standing, FairNoted, FairMove, fair-stay, fair-write, fair-after, standing-codes, fair-silent, fair-reply}
 
 -- the merge
-pub standing-hear : {t : Terms} {own : ℕ} {H : List Written} {s : Site} (said : List ℕ) →
-    ((i : ℕ) → i < t .n → TrueCode H i (getD said i 0)) → Standing t own H s → Standing t own H (hear own (t .n) said s)
-unfolding hear merging
-standing-hear {t} {own} {H} {s} said true-said st =
-    standing-codes (merge (t .n) own said (s .codes)) (vector-merge own said (s .codes) (st .few) true-said (st .site .codes)) st
+pub standing-hear : {t : Terms} {own : ℕ} {H : List Written} {s : Site} (row : Row) →
+    ((i : ℕ) → i < t .n → TrueCode H i (getD (row .codes) i 0)) → Standing t own H s → Standing t own H (hear own (t .n) row s)
+unfolding hear
+standing-hear {t} {own} {H} {s} row true-said st =
+    standing-codes (merging (t .n) own (row .sender) (row .codes) (s .codes) .codes)
+    (vector-merge own (row .sender) (row .codes) (s .codes) (st .few) true-said (st .site .codes)) st
 
 module _ {t : Terms} {own : ℕ} {H : List Written} {s : Site} (st : Standing t own H s) where
   -- an outcome that some entry shows
@@ -136,10 +137,10 @@ fair-answer {t} {own} {H} kind sender willing m is join f =
 
 pub fair-deliver : {t : Terms} {own : ℕ} {H : List Written} {s : Site} (willing : Bool) (row : Row) → hasBit (t .willing) own ≡ willing →
     TrueRow (t .n) H row → Standing t own H s → FairMove t own H (deliver own (t .n) willing row s)
-unfolding deliver bringing
+unfolding deliver afterHearing bringing
 fair-deliver {t} {own} {H} {s} willing row is true-row st =
     let answered : FairMove t own H
-    (answer (row .kind) own (row .sender) willing (adopt own (t .n) (hear own (t .n) (row .codes) s))) =
-    fair-answer (row .kind) (row .sender) willing (adopt own (t .n) (hear own (t .n) (row .codes) s)) is (true-row .join)
-    (fair-adopt (standing-hear (row .codes) (true-row .codes) st)) in
+    (answer (row .kind) own (row .sender) willing (adopt own (t .n) (hear own (t .n) row s))) =
+    fair-answer (row .kind) (row .sender) willing (adopt own (t .n) (hear own (t .n) row s)) is (true-row .join)
+    (fair-adopt (standing-hear row (true-row .codes) st)) in
     record { fair = answered .fair; row = answered .row }

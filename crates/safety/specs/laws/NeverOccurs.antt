@@ -22,10 +22,11 @@ use Rattle.world.specs.Worlds.{siteOf, zeroWorld}
 use Rattle.world.specs.Valid.{validWorld}
 use Rattle.play.specs.Calls.{Call}
 use Rattle.play.specs.Run.{Ask, Ran, run, callOf}
+use Rattle.choice.specs.laws.Stores.{sumTo}
 use Rattle.safety.specs.Claims.{NoConflict, Delivered, NeverOccurs}
 use Rattle.choice.specs.laws.Cases.{by-equal}
 use Rattle.safety.specs.laws.HistoryLaws.{grown-append}
-use Rattle.safety.specs.laws.Weights.{totalWeight, total-sites}
+use Rattle.safety.specs.laws.Weights.{total-sites}
 use Rattle.world.specs.laws.SizesLaws.{Sized, sized}
 use Rattle.world.specs.laws.WorldLaws.{valid-sized}
 use Rattle.safety.specs.laws.Truth.{Terms, TrueHistory, TrueCode, TrueRow}
@@ -39,7 +40,7 @@ use Rattle.safety.specs.laws.Runs.{seen, run-keeps, call-stuck, run-stuc
 
 -- true codes do not conflict
 no-conflict : (t : Terms) (H : List Written) (v : List ℕ) → TrueHistory t H → 1 ≤ t .commit →
-    totalWeight (t .weight) (t .n) < t .commit + t .abort → ((i : ℕ) → i < t .n → TrueCode H i (getD v i 0)) → NoConflict (t .n) v
+    sumTo (t .weight) (t .n) < t .commit + t .abort → ((i : ℕ) → i < t .n → TrueCode H i (getD v i 0)) → NoConflict (t .n) v
 no-conflict t H v true-of some more true-v =
     record {
       none = λ i j i-below j-below four five.
@@ -53,12 +54,12 @@ delivered :
     Delivered w store k i
 delivered w store H k i c inv d =
     let s : Sized (w .n) (w .commit) (w .abort) (w .willing) = valid-sized w (d .valid) in
-    let more : totalWeight siteWeight (w .n) < w .commit .0 + w .abort .0 = omega (arith, total-sites (w .n)) in
+    let more : sumTo siteWeight (w .n) < w .commit .0 + w .abort .0 = omega (arith, total-sites (w .n)) in
     let row : Row = getRow store k in
     let true-row : TrueRow (w .n) H row = inv .rows k (d .row-below) in
-    let merged : Site = hear i (w .n) (row .codes) (siteOf w i) in
+    let merged : Site = hear i (w .n) row (siteOf w i) in
     let heard : Standing (termsOf w) i H merged =
-    standing-hear (row .codes) (true-row .codes) (standing w store H inv i (d .site-below)) in
+    standing-hear row (true-row .codes) (standing w store H inv i (d .site-below)) in
     let then : Noted = adopt i (w .n) merged in
     let adopted : FairNoted (termsOf w) i H then = fair-adopt heard in
     record {

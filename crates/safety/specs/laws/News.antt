@@ -10,8 +10,11 @@ use lib.Seq.{getD-set-other}
 use borrow.Author.Tests.{eq-eqb, ne-eqb}
 use Rattle.choice.specs.Choice.{pick, either}
 use Rattle.choice.specs.laws.Cases.{by-test, by-equal}
-use Rattle.merging.specs.Merging.{rises, mergeEntry, merge, risen, merging}
-use Rattle.merging.specs.laws.MergeLaws.{merge-at, rises-own, entry-changed, entry-kept}
+use Rattle.choice.specs.laws.Stores.{sumTo}
+use Rattle.merging.specs.Merging.{rises, mergeEntry, isOther, merging}
+use Rattle.merging.specs.laws.Orders.{other-on, other-own}
+use Rattle.merging.specs.laws.MergeLaws.{merging-at, entry-changed, entry-kept}
+use Rattle.merging.specs.laws.News.{gain, share, risen, merging-news}
 use Rattle.row.specs.declared.Row.{Row}
 use Rattle.row.specs.Rows.{getRow}
 use Rattle.site.specs.declared.Site.{Site}
@@ -36,6 +39,7 @@ use Rattle.rules.specs.Rules.{
   hear,
   adopt,
   bringing,
+  afterHearing,
   deliver,
   crash,
   restart,
@@ -93,27 +97,35 @@ news-is-sum n c a willing store asks =
 -- the entries that a merge raises are those of other sites that differ after it
 
 entry-counted :
-    (own k held said code : ℕ) → ((k ≡ own → ⊥) → code ≡ mergeEntry own k held said) →
-    _≡_ {A = ℕ} (pick (either (eqb k own) (eqb held code)) 0 1) (pick (rises own k held said) 1 0)
-entry-counted own k held said code then =
+    (n own k held said code : ℕ) → k < n → ((k ≡ own → ⊥) → code ≡ mergeEntry held said) →
+    _≡_ {A = ℕ} (pick (either (eqb k own) (eqb held code)) 0 1) (pick (isOther n own k) (pick (rises held said) 1 0) 0)
+entry-counted n own k held said code below then =
     by-equal k own
-    (λ q. rw (q, eq-eqb own own refl, rises-own own held said))
-    (λ q. by-test (rises own k held said)
-    (λ e. rw (e, ne-eqb k own q, ne-eqb held code (λ same. entry-changed own k held said e (same ∙ then q))))
-    (λ e. rw (e, ne-eqb k own q, eq-eqb held code (entry-kept own k held said e ∙ sym (then q)))))
+    (λ q. rw (q, eq-eqb own own refl, other-own n own))
+    (λ q. by-test (rises held said)
+    (λ e. rw (e, other-on n own k below q, ne-eqb k own q, ne-eqb held code (λ same. entry-changed held said e (same ∙ then q))))
+    (λ e. rw (e, other-on n own k below q, ne-eqb k own q, eq-eqb held code (entry-kept held said e ∙ sym (then q)))))
 
 risen-changed :
-    (k own : ℕ) (said v u : List ℕ) →
-    ((j : ℕ) → j < k → (j ≡ own → ⊥) → getD u j 0 ≡ mergeEntry own j (getD v j 0) (getD said j 0)) →
-    risen k own said v ≡ entriesChanged k own v u
-unfolding risen entriesChanged
-risen-changed zero own said v u then = refl
-risen-changed (suc k) own said v u then =
+    (k n own : ℕ) (said v u : List ℕ) → k ≤ n →
+    ((j : ℕ) → j < k → (j ≡ own → ⊥) → getD u j 0 ≡ mergeEntry (getD v j 0) (getD said j 0)) →
+    risen k n own said v ≡ entriesChanged k own v u
+unfolding risen sumTo share gain entriesChanged
+risen-changed zero n own said v u few then = refl
+risen-changed (suc k) n own said v u few then =
     omega (
       arith,
-      risen-changed k own said v u (λ j h. then j (omega arith)),
-      entry-counted own k (getD v k 0) (getD said k 0) (getD u k 0) (then k (omega arith)),
+      risen-changed k n own said v u (omega arith) (λ j h. then j (omega arith)),
+      entry-counted n own k (getD v k 0) (getD said k 0) (getD u k 0) (omega arith) (then k (omega arith)),
     )
+
+-- and the news is how many
+merging-changed :
+    (n own sender : ℕ) (said v u : List ℕ) →
+    ((j : ℕ) → j < n → (j ≡ own → ⊥) → getD u j 0 ≡ mergeEntry (getD v j 0) (getD said j 0)) →
+    merging n own sender said v .news ≡ entriesChanged n own v u
+merging-changed n own sender said v u then =
+    merging-news n own sender said v n (omega arith) ∙ risen-changed n n own said v u (omega arith) then
 
 -- after the merge a site's own writes leave the entries of the others
 elsewhere : (own k code : ℕ) → (k ≡ own → ⊥) → Writes own (λ s H. getD (s .codes) k 0 ≡ code)
@@ -128,20 +140,21 @@ elsewhere own k code other =
 -- an entry of another site after a delivery
 entry-after :
     (own n : ℕ) (willing : Bool) (row : Row) (s : Site) (k : ℕ) → n ≤ length (s .codes) → k < n → (k ≡ own → ⊥) →
-    getD (deliver own n willing row s .step .site .codes) k 0 ≡ mergeEntry own k (getD (s .codes) k 0) (getD (row .codes) k 0)
-unfolding deliver bringing merging hear withCodes Moved Held
+    getD (deliver own n willing row s .step .site .codes) k 0 ≡ mergeEntry (getD (s .codes) k 0) (getD (row .codes) k 0)
+unfolding deliver afterHearing bringing hear withCodes Moved Held
 entry-after own n willing row s k room below other =
-    let code : ℕ = mergeEntry own k (getD (s .codes) k 0) (getD (row .codes) k 0) in
+    let code : ℕ = mergeEntry (getD (s .codes) k 0) (getD (row .codes) k 0) in
     let Q : Site → List Written → Type 0 = λ x H. getD (x .codes) k 0 ≡ code in
-    keeps-answer own n Q (elsewhere own k code other) (row .kind) (row .sender) willing (adopt own n (hear own n (row .codes) s))
-    (keeps-adopt own n Q (elsewhere own k code other) (hear own n (row .codes) s) (merge-at n own (row .codes) (s .codes) k below room))
+    keeps-answer own n Q (elsewhere own k code other) (row .kind) (row .sender) willing (adopt own n (hear own n row s))
+    (keeps-adopt own n Q (elsewhere own k code other) (hear own n row s)
+    (merging-at n own (row .sender) (row .codes) (s .codes) k (omega arith) below other))
 
 deliver-tells :
     (own n : ℕ) (willing : Bool) (row : Row) (s : Site) → n ≤ length (s .codes) →
     deliver own n willing row s .step .news ≡ entriesChanged n own (s .codes) (deliver own n willing row s .step .site .codes)
-unfolding deliver bringing merging
+unfolding deliver afterHearing bringing
 deliver-tells own n willing row s room =
-    risen-changed n own (row .codes) (s .codes) (deliver own n willing row s .step .site .codes)
+    merging-changed n own (row .sender) (row .codes) (s .codes) (deliver own n willing row s .step .site .codes)
     (λ j h q. entry-after own n willing row s j room h q)
 
 -- an accepted delivery
@@ -171,17 +184,18 @@ past-tells :
     maxNews
     < w .news
     + entriesChanged (w .n) (d .site) (siteOf w (d .site) .codes)
-    (hear (d .site) (w .n) (getRow store (d .row) .codes) (siteOf w (d .site)) .codes)
-unfolding deliver bringing merging hear withCodes
+    (hear (d .site) (w .n) (getRow store (d .row)) (siteOf w (d .site)) .codes)
+unfolding deliver afterHearing bringing hear withCodes
 past-tells w store list at d next shaped reading valid e =
     let site : Site = siteOf w (d .site) in
-    let said : List ℕ = getRow store (d .row) .codes in
+    let row : Row = getRow store (d .row) in
     let p : (d .site < w .n) × (maxNews < w .news + deliveryOf w store (d .row) (d .site) .step .news) =
     delivery-past w store list at d next reading valid e in
     let most : w .n ≤ 16 = valid-sized w valid .high in
     let room : w .n ≤ length (site .codes) = omega (arith, shaped .codes (d .site) (omega (arith, p .0))) in
-    rw (← risen-changed (w .n) (d .site) said (site .codes) (merge (w .n) (d .site) said (site .codes))
-    (λ j h _. merge-at (w .n) (d .site) said (site .codes) j h room)) (p .1)
+    rw (← merging-changed (w .n) (d .site) (row .sender) (row .codes) (site .codes)
+    (merging (w .n) (d .site) (row .sender) (row .codes) (site .codes) .codes)
+    (λ j h e. merging-at (w .n) (d .site) (row .sender) (row .codes) (site .codes) j (omega arith) h e)) (p .1)
 
 -- the other rules merge nothing
 

@@ -5,7 +5,6 @@ use mathlib.Core.List.{List, [], _∷_, _++_}
 use mathlib.Core.Path.{_≡_, refl, sym, ap, _∙_}
 use native.Mathlib.Omega.{arith}
 use lib.Dec.{eqb}
-use Rattle.merging.specs.Merging.{merging}
 use Rattle.choice.specs.Choice.{pick}
 use Rattle.choice.specs.laws.ChoiceLaws.{pick-on}
 use Rattle.site.specs.declared.Outcome.{Outcome}
@@ -32,7 +31,7 @@ Decided : Outcome → Site → List Written → Type 0
 Decided o s H = (s .outcome ≡ o) × (H ≡ [])
 
 decided-steady : (own n : ℕ) (o : Outcome) → (o ≡ Outcome·.None → ⊥) → Steady own n (Decided o)
-unfolding Decided withUp withCoordinator withCodes hear merging
+unfolding Decided withUp withCoordinator withCodes hear
 decided-steady own n o some =
     record {
       up = λ b s H q. q;
@@ -43,7 +42,7 @@ decided-steady own n o some =
             joins = λ k s H e q. absurd (some (sym (q .0) ∙ e));
             decides = λ k s H e q. absurd (some (sym (q .0) ∙ e));
           };
-      hears = λ said s H e q. q;
+      hears = λ row s H e q. q;
       forgets = λ s H q. q;
     }
 

@@ -7,9 +7,8 @@ use native.Mathlib.Omega.{arith}
 use lib.Dec.{eqb}
 use lib.ListN.{length, length-set}
 use borrow.Author.Tests.{eqb-true}
-use Rattle.merging.specs.Merging.{merging}
 use Rattle.choice.specs.laws.ChoiceLaws.{pick-ind}
-use Rattle.merging.specs.laws.MergeLaws.{merge-length}
+use Rattle.merging.specs.laws.MergeLaws.{merging-length}
 use Rattle.site.specs.declared.Group.{Group}
 use Rattle.site.specs.declared.Group.the-variants as Group·
 use Rattle.site.specs.declared.Site.{Site}
@@ -66,7 +65,7 @@ kept-length Group·.Commit v l = l
 kept-length Group·.Abort v l = l
 
 pub long-steady : (own n : ℕ) → Steady own n (λ s H. Long s)
-unfolding withUp withCoordinator withPrepared withGroup withOutcome withCodes withOwn writePrepare joinGroup writeOutcome hear merging
+unfolding withUp withCoordinator withPrepared withGroup withOutcome withCodes withOwn writePrepare joinGroup writeOutcome hear
 long-steady own n =
     record {
       up = λ b s H q. record { codes = q .codes; joined = q .joined };
@@ -77,7 +76,8 @@ long-steady own n =
             joins = λ k s H e q. record { codes = simp length-set (q .codes); joined = simp length-set (q .codes) };
             decides = λ k s H e q. record { codes = simp length-set (q .codes); joined = q .joined };
           };
-      hears = λ said s H e q. record { codes = merge-length n own said (s .codes) ∙ q .codes; joined = q .joined };
+      hears = λ row s H e q.
+          record { codes = merging-length n own (row .sender) (row .codes) (s .codes) ∙ q .codes; joined = q .joined };
       forgets = λ s H q. record { codes = simp length-set (kept-length (s .group) (s .joined) (q .joined)); joined = q .joined };
     }
 

@@ -8,11 +8,13 @@ use lib.Dec.{ltb, leb, eqb}
 use lib.ListN.{length, getD, set, getD-replicate}
 use lib.Seq.{getD-set-same}
 use borrow.Author.Tests.{ltb-true, ltb-false, le-leb, leb-true, eq-eqb, eqb-true}
-use Rattle.choice.specs.Choice.{both}
+use Rattle.choice.specs.Choice.{pick, both}
 use Rattle.choice.specs.laws.ChoiceLaws.{pick-ind, both-on, both-first, both-second, set-ind}
 use Rattle.vector.specs.Vector.{validEntry, validEntries, validVector}
-use Rattle.merging.specs.Merging.{rises, mergeEntry, merge, merging}
-use Rattle.merging.specs.laws.MergeLaws.{merge-at, merge-else, entry-own}
+use Rattle.merging.specs.Merging.{rises, mergeEntry, isOther, merging}
+use Rattle.merging.specs.laws.Orders.{other-own, other-beyond}
+use Rattle.merging.specs.laws.MergeLaws.{merging-entry, merging-else}
+use Rattle.row.specs.declared.Row.{Row}
 use Rattle.row.specs.Rows.{codesKnown}
 use Rattle.site.specs.declared.Group.{Group}
 use Rattle.site.specs.declared.Group.the-variants as Group·
@@ -97,23 +99,26 @@ set-sound n own code v below room h s =
           (λ e. record { small = λ _. h; none = λ k. absurd (omega arith) }) (λ _. s .at i l);
     }
 
-merged-small : (own i held said : ℕ) → held ≤ 5 → said ≤ 5 → mergeEntry own i held said ≤ 5
+merged-small : (held said : ℕ) → held ≤ 5 → said ≤ 5 → mergeEntry held said ≤ 5
 unfolding mergeEntry
-merged-small own i held said h k = pick-ind (λ x. x ≤ 5) (rises own i held said) said held (λ _. k) (λ _. h)
+merged-small held said h k = pick-ind (λ x. x ≤ 5) (rises held said) said held (λ _. k) (λ _. h)
 
 merge-sound :
-    (n own : ℕ) (said v : List ℕ) → n ≤ length v → codesKnown n said ≡ true → SoundVector n v →
-    SoundVector n (merge n own said v)
-merge-sound n own said v room known s =
+    (n own sender : ℕ) (said v : List ℕ) → n ≤ length v → codesKnown n said ≡ true → SoundVector n v →
+    SoundVector n (merging n own sender said v .codes)
+merge-sound n own sender said v room known s =
     record {
       at = λ i l. record {
-        small = λ h. rw (merge-at n own said v i h room) (entry i h (s .at i l .small h));
-        none = λ h. merge-else n own said v i h ∙ s .at i l .none h;
+        small = λ h. rw (merging-entry n own sender said v i (omega arith)) (entry i h (s .at i l .small h));
+        none = λ h. merging-else n own sender said v i (other-beyond n own i h) ∙ s .at i l .none h;
       };
     }
   where
-    entry : (i : ℕ) → i < n → getD v i 0 ≤ 5 → mergeEntry own i (getD v i 0) (getD said i 0) ≤ 5
-    entry i h k = merged-small own i (getD v i 0) (getD said i 0) k (known-small n said known i h)
+    entry :
+        (i : ℕ) → i < n → getD v i 0 ≤ 5 → pick (isOther n own i) (mergeEntry (getD v i 0) (getD said i 0)) (getD v i 0) ≤ 5
+    entry i h k =
+        pick-ind (λ x. x ≤ 5) (isOther n own i) (mergeEntry (getD v i 0) (getD said i 0)) (getD v i 0)
+        (λ _. merged-small (getD v i 0) (getD said i 0) k (known-small n said known i h)) (λ _. k)
 
 zero-sound : (n : ℕ) → SoundVector n zeroVector
 unfolding zeroVector
@@ -256,15 +261,13 @@ module _ (own n : ℕ) (below : own < n) (most : n ≤ 16) where
       }
 
   sound-hears :
-      (said : List ℕ) (s : Site) → codesKnown n said ≡ true → SoundSite own n s → SoundSite own n (hear own n said s)
-  unfolding stateOf withCodes hear merging
-  sound-hears said s known q =
+      (row : Row) (s : Site) → codesKnown n (row .codes) ≡ true → SoundSite own n s → SoundSite own n (hear own n row s)
+  unfolding stateOf withCodes hear
+  sound-hears row s known q =
       record {
-        long = long-steady own n .hears said s [] known (q .long);
-        codes = merge-sound n own said (s .codes) (omega arith) known (q .codes);
-        own-code =
-            merge-at n own said (s .codes) own below (omega arith)
-            ∙ entry-own own (getD (s .codes) own 0) (getD said own 0) ∙ q .own-code;
+        long = long-steady own n .hears row s [] known (q .long);
+        codes = merge-sound n own (row .sender) (row .codes) (s .codes) (omega arith) known (q .codes);
+        own-code = merging-else n own (row .sender) (row .codes) (s .codes) own (other-own n own) ∙ q .own-code;
         group = q .group;
       }
 

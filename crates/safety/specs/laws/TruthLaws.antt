@@ -7,8 +7,8 @@ use native.Mathlib.Omega.{arith}
 use lib.ListN.{getD, set, length-set, getD-replicate, length-replicate}
 use Rattle.choice.specs.laws.ChoiceLaws.{pick-ind, set-ind}
 use Rattle.vector.specs.Vector.{weigh}
-use Rattle.merging.specs.Merging.{rises, mergeEntry, merge}
-use Rattle.merging.specs.laws.MergeLaws.{merge-length, merge-at}
+use Rattle.merging.specs.Merging.{rises, mergeEntry, isOther, merging}
+use Rattle.merging.specs.laws.MergeLaws.{merging-length, merging-entry}
 use Rattle.row.specs.declared.Row.{Row}
 use Rattle.site.specs.declared.Group.{Group}
 use Rattle.site.specs.declared.Group.the-variants as Group·
@@ -20,9 +20,10 @@ use Rattle.site.specs.declared.Site.{Site}
 use Rattle.site.specs.State.{stateBy, stateOf, codeOf, isTerminated, isActive}
 use Rattle.site.specs.Fields.{zeroVector}
 use Rattle.site.specs.Records.{Written}
+use Rattle.choice.specs.laws.Stores.{sumTo}
 use Rattle.safety.specs.Claims.{writtenAt}
 use Rattle.safety.specs.laws.HistoryLaws.{Grown, at-append, grown-append}
-use Rattle.safety.specs.laws.Weights.{weighRecords, totalWeight, weight-from, weights-apart, entries-backed}
+use Rattle.safety.specs.laws.Weights.{weighRecords, weight-from, weights-apart, entries-backed}
 use Rattle.safety.specs.laws.Truth.{Terms, AllPrepared, AbortGround, by-quorum, by-unprepared, TrueHistory, TrueCode, TrueVector, TrueLog, TrueSite, TrueRow, Says}
 
 -- growth
@@ -84,20 +85,20 @@ vector-set {n} {H} v i code room t true-code =
     }
 
 -- merged entries are true
-entry-merge : (H : List Written) (own i held said : ℕ) → TrueCode H i held → TrueCode H i said →
-    TrueCode H i (mergeEntry own i held said)
+entry-merge : (H : List Written) (i held said : ℕ) → TrueCode H i held → TrueCode H i said → TrueCode H i (mergeEntry held said)
 unfolding mergeEntry
-entry-merge H own i held said true-held true-said =
-    pick-ind (TrueCode H i) (rises own i held said) said held (λ _. true-said) (λ _. true-held)
+entry-merge H i held said true-held true-said =
+    pick-ind (TrueCode H i) (rises held said) said held (λ _. true-said) (λ _. true-held)
 
-pub vector-merge : {n : ℕ} {H : List Written} (own : ℕ) (said v : List ℕ) → n ≤ 16 →
-    ((i : ℕ) → i < n → TrueCode H i (getD said i 0)) → TrueVector n H v → TrueVector n H (merge n own said v)
-vector-merge {n} {H} own said v room true-said t =
+pub vector-merge : {n : ℕ} {H : List Written} (own sender : ℕ) (said v : List ℕ) → n ≤ 16 →
+    ((i : ℕ) → i < n → TrueCode H i (getD said i 0)) → TrueVector n H v → TrueVector n H (merging n own sender said v .codes)
+vector-merge {n} {H} own sender said v room true-said t =
     record {
       codes = λ i h.
-          rw (merge-at n own said v i h (omega arith))
-          (entry-merge H own i (getD v i 0) (getD said i 0) (t .codes i h) (true-said i h));
-      long = merge-length n own said v ∙ t .long;
+          rw (merging-entry n own sender said v i (omega arith))
+          (pick-ind (TrueCode H i) (isOther n own i) (mergeEntry (getD v i 0) (getD said i 0)) (getD v i 0)
+          (λ _. entry-merge H i (getD v i 0) (getD said i 0) (t .codes i h) (true-said i h)) (λ _. t .codes i h));
+      long = merging-length n own sender said v ∙ t .long;
     }
 
 -- entries of a true vector weigh no more than the records
@@ -174,7 +175,7 @@ commit-prepared t H true-of some j h =
     from (i, less, joined) = true-of .commit-group i joined
 
 -- commit and abort never both, where the quorums together weigh more than all sites
-pub not-both : (t : Terms) (H : List Written) → TrueHistory t H → 1 ≤ t .commit → totalWeight (t .weight) (t .n) < t .commit + t .abort →
+pub not-both : (t : Terms) (H : List Written) → TrueHistory t H → 1 ≤ t .commit → sumTo (t .weight) (t .n) < t .commit + t .abort →
     (i j : ℕ) → 1 ≤ writtenAt i 4 H → 1 ≤ writtenAt j 5 H → ⊥
 not-both t H true-of some more i j c a = clash (true-of .abort-outcome j a)
   where

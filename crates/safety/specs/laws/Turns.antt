@@ -55,6 +55,7 @@ use Rattle.rules.specs.Rules.{
   after,
   answer,
   bringing,
+  afterHearing,
   deliver,
   keptVector,
   crash,
@@ -82,7 +83,7 @@ pub record Steady (own n : ℕ) (Q : Site → List Written → Type 0) : Type 0 
   pub up : (b : Bool) (s : Site) (H : List Written) → Q s H → Q (withUp b s) H
   pub role : (b : Bool) (s : Site) (H : List Written) → Q s H → Q (withCoordinator b s) H
   pub writes : Writes own Q
-  pub hears : (said : List ℕ) (s : Site) (H : List Written) → codesKnown n said ≡ true → Q s H → Q (hear own n said s) H
+  pub hears : (row : Row) (s : Site) (H : List Written) → codesKnown n (row .codes) ≡ true → Q s H → Q (hear own n row s) H
   pub forgets :
       (s : Site) (H : List Written) → Q s H →
       Q (withCodes (set (keptVector (s .group) (s .joined)) own (codeOf (stateOf s))) s) H
@@ -243,11 +244,11 @@ module _ (own n : ℕ) (Q : Site → List Written → Type 0) (steady : Steady o
 
   keeps-deliver :
       (willing : Bool) (row : Row) (s : Site) → rowKnown n row ≡ true → Q s [] → Moved Q (deliver own n willing row s)
-  unfolding Moved Held deliver bringing rowKnown
+  unfolding Moved Held deliver afterHearing bringing rowKnown
   keeps-deliver willing row s known q =
-      keeps-answer own n Q (steady .writes) (row .kind) (row .sender) willing (adopt own n (hear own n (row .codes) s))
-      (keeps-adopt own n Q (steady .writes) (hear own n (row .codes) s)
-      (steady .hears (row .codes) s []
+      keeps-answer own n Q (steady .writes) (row .kind) (row .sender) willing (adopt own n (hear own n row s))
+      (keeps-adopt own n Q (steady .writes) (hear own n row s)
+      (steady .hears row s []
       (both-second (ltb (row .sender) n) (codesKnown n (row .codes))
       (both-second (both (leb 1 (row .kind)) (leb (row .kind) 7)) (both (ltb (row .sender) n) (codesKnown n (row .codes))) known))
       q))

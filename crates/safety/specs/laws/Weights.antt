@@ -11,6 +11,7 @@ use Rattle.vector.specs.Codes.{isOutcome}
 use Rattle.vector.specs.Vector.{entryWeight, weigh, siteWeight, firstOutcome, lowestOutcome}
 use Rattle.site.specs.Records.{Written}
 use Rattle.choice.specs.laws.Cases.{by-test, by-equal}
+use Rattle.choice.specs.laws.Stores.{sumTo}
 use Rattle.safety.specs.Claims.{writtenAt}
 use Rattle.safety.specs.laws.HistoryLaws.{Grown}
 
@@ -23,13 +24,9 @@ unfoldable pub weighRecords : (ℕ → ℕ) → ℕ → ℕ → List Written →
 weighRecords weight zero code H = 0
 weighRecords weight (suc k) code H = weighRecords weight k code H + siteShare weight code k H
 
--- the weight of all sites below n
-unfoldable pub totalWeight : (ℕ → ℕ) → ℕ → ℕ
-totalWeight weight zero = 0
-totalWeight weight (suc k) = totalWeight weight k + weight k
-
-pub total-sites : (n : ℕ) → totalWeight siteWeight n ≡ n
-unfolding totalWeight siteWeight
+-- the weight of all sites below n is a sum; where each weighs 1 it is n
+pub total-sites : (n : ℕ) → sumTo siteWeight n ≡ n
+unfolding sumTo siteWeight
 total-sites zero = refl
 total-sites (suc k) = omega (arith, total-sites k)
 
@@ -75,11 +72,11 @@ module _ (weight : ℕ → ℕ) where
 
   -- two codes of which no site has both weigh no more than all sites
   pub weights-apart : (n x y : ℕ) (H : List Written) → ((j : ℕ) → writtenAt j x H + writtenAt j y H ≤ 1) →
-      weighRecords weight n x H + weighRecords weight n y H ≤ totalWeight weight n
-  unfolding weighRecords totalWeight
+      weighRecords weight n x H + weighRecords weight n y H ≤ sumTo weight n
+  unfolding weighRecords sumTo
   weights-apart zero x y H apart = omega arith
   weights-apart (suc k) x y H apart =
-      let rest : weighRecords weight k x H + weighRecords weight k y H ≤ totalWeight weight k = weights-apart k x y H apart in
+      let rest : weighRecords weight k x H + weighRecords weight k y H ≤ sumTo weight k = weights-apart k x y H apart in
       share-cases x k H
       (λ h e. omega (arith, share-none y k H (omega (arith, apart k))))
       (λ h e. share-cases y k H (λ h′ e′. omega arith) (λ h′ e′. omega arith))

@@ -5,47 +5,29 @@ use mathlib.Core.List.{List}
 use mathlib.Core.Path.{_≡_, refl, _∙_}
 use native.Mathlib.Omega.{arith}
 use lib.Dec.{ltb, leb, eqb}
-use lib.ListN.{length, getD, set, replicate, length-set, getD-replicate}
-use lib.Seq.{getD-set-same, getD-set-other}
-use borrow.Author.Tests.{lt-ltb, le-ltb, le-leb, lt-leb, eq-eqb, ne-eqb, ltb-true, ltb-false, leb-true}
+use lib.ListN.{getD, replicate, length-replicate, getD-replicate}
+use borrow.Author.Tests.{le-ltb, le-leb, lt-leb, eq-eqb, ne-eqb, ltb-true, ltb-false, leb-true}
 use Rattle.choice.specs.Choice.{pick, both}
-use Rattle.choice.specs.laws.ChoiceLaws.{both-first, both-second}
+use Rattle.choice.specs.laws.ChoiceLaws.{pick-off, both-first, both-second}
 use Rattle.choice.specs.laws.Cases.{by-test, by-equal}
+use Rattle.choice.specs.laws.Stores.{storedTo, stored-at, stored-else}
 use Rattle.vector.specs.Vector.{validEntry, validEntries, validVector}
 
 -- the limits for n sites
 unfoldable pub limitsTo : ℕ → List ℕ
-limitsTo zero = replicate 16 0
-limitsTo (suc k) = set (limitsTo k) k 5
+limitsTo n = storedTo (λ _. 5) n (replicate 16 0)
 
 -- the entries below k are within their limits
 unfoldable pub within : ℕ → List ℕ → List ℕ → Bool
 within zero limits v = true
 within (suc k) limits v = both (within k limits v) (leb (getD v k 0) (getD limits k 0))
 
-limitsTo-length : (n : ℕ) → length (limitsTo n) ≡ 16
-unfolding limitsTo
-limitsTo-length zero = refl
-limitsTo-length (suc k) = simp length-set (limitsTo-length k)
-
-zeros-at : (k : ℕ) → k < 16 → getD (limitsTo 0) k 0 ≡ 0
-unfolding limitsTo
-zeros-at k small = getD-replicate 16 k 0 0 small
-
--- one site more makes no difference to another
-further : (k m : ℕ) → (k ≡ m → ⊥) → _≡_ {A = ℕ} (pick (ltb k m) 5 0) (pick (ltb k (suc m)) 5 0)
-further k m e =
-    by-test (ltb k m)
-    (λ t. let h : k < m = ltb-true k m t in rw (t, lt-ltb k (suc m) (omega arith)))
-    (λ t. let h : m ≤ k = ltb-false k m t in rw (t, le-ltb k (suc m) (omega arith)))
-
 limit-at : (n k : ℕ) → k < 16 → getD (limitsTo n) k 0 ≡ pick (ltb k n) 5 0
 unfolding limitsTo
-limit-at zero k small = rw (le-ltb k 0 (omega arith)) (zeros-at k small)
-limit-at (suc m) k small =
-    by-equal k m
-    (λ e. rw (e, lt-ltb m (suc m) (omega arith)) (getD-set-same (limitsTo m) m 5 0 (rw limitsTo-length (omega arith))))
-    (λ e. getD-set-other (limitsTo m) m k 5 0 e ∙ limit-at m k small ∙ further k m e)
+limit-at n k small =
+    by-test (ltb k n)
+    (λ t. rw t (stored-at (λ _. 5) n (replicate 16 0) k (ltb-true k n t) (rw (length-replicate {A = ℕ} 16 0) small)))
+    (λ t. rw t (stored-else (λ _. 5) n (replicate 16 0) k (ltb-false k n t) ∙ getD-replicate 16 k 0 0 small))
 
 -- an entry is at most 0 where it is 0
 at-most-zero : (x : ℕ) → leb x 0 ≡ eqb x 0
@@ -76,7 +58,7 @@ entries-zero (suc k) i v small h e =
     (λ q.
     let z : getD v k 0 ≤ getD (limitsTo 0) k 0 =
     leb-true _ _ (both-second (within k (limitsTo 0) v) (leb (getD v k 0) (getD (limitsTo 0) k 0)) e) in
-    rw q (omega (arith, z, zeros-at k (omega arith))))
+    rw q (omega (arith, z, limit-at 0 k (omega arith), pick-off {A = ℕ} (ltb k 0) 5 0 (le-ltb k 0 (omega arith)))))
     (λ q.
     entries-zero k i v (omega arith) (omega arith)
     (both-first (within k (limitsTo 0) v) (leb (getD v k 0) (getD (limitsTo 0) k 0)) e))

@@ -70,12 +70,12 @@ impl Case {
         self
     }
 
-    /// The news after the command, by the model.
-    pub fn news_after(&self) -> usize {
+    /// The world after the command, by the model.
+    pub fn world_after(&self) -> World {
         let (mut world, mut store) = (self.world, self.store.clone());
         let ask = Ask::new(&self.list, self.at);
         let _ = one_command(&mut world, &mut store, ask);
-        world.news
+        world
     }
 
     pub fn check(&self, both: &mut Comparer) -> Done {

@@ -4,6 +4,7 @@ mod commands;
 mod lists;
 mod news;
 mod reports;
+mod senders;
 mod shared;
 mod worlds;
 
@@ -11,4 +12,5 @@ pub use commands::commands;
 pub use lists::lists;
 pub use news::news;
 pub use reports::reports;
+pub use senders::senders;
 pub use worlds::{every_byte, worlds};

@@ -17,7 +17,7 @@ use Command::{Crash, Recover, Start, Timeout};
 type Bringing = (usize, Case);
 
 /// Row 5 with these codes and of this kind, to a site.
-fn told(name: &'static str, kind: u8, codes: [u8; 5], site: usize) -> Case {
+pub fn told(name: &'static str, kind: u8, codes: [u8; 5], site: usize) -> Case {
     let case = Case::new(name, 0, deliver(5, site)).row(0, kind);
     let entries = codes.into_iter().enumerate();
     entries.fold(case, |case, (entry, code)| case.row(4 + entry, code))
@@ -125,7 +125,7 @@ pub fn news(both: &mut Comparer) -> Done {
     let groups = [plain(), levels(), no_news(), carries(), limit(), others()];
     for (brought, case) in groups.iter().flatten() {
         case.check(both)?;
-        let (news, wanted) = (case.news_after(), case.world.news + brought);
+        let (news, wanted) = (case.world_after().news, case.world.news + brought);
         if news != wanted {
             return Err(format!("{}: news {news}, {wanted} due\n", case.name));
         }

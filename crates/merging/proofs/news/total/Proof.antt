@@ -3,14 +3,15 @@ use native.Mathlib.Omega.{arith}
 use native.Mathlib.Numerals.{add-one}
 use Prim.Native.Nat.{ℕ, _≤_, _-_}
 use mathlib.Core.Path.{_≡_}
-use Rattle.merging.specs.laws.News.{sumTo}
+use lib.ListN.{getD}
+use Rattle.choice.specs.laws.Stores.{sumTo}
 use Rattle.merging.proofs.news.total.Statement.{statement}
 use Rattle.merging.proofs.news.total.Tie as tie
 use Rattle.merging.proofs.news.total.Reads as reads
 use Rattle.merging.proofs.news.total.Lts as lts
 
 abbrev Inv-loop : tie.InvT-loop
-Inv-loop rose sum₀ k₀ sum k = (k ≤ 16) × (sum ≡ sumTo k rose) × (sum ≤ k)
+Inv-loop rose sum₀ k₀ sum k = (k ≤ 16) × (sum ≡ sumTo (λ i. getD rose i 0) k) × (sum ≤ k)
 
 abbrev μ-loop : tie.MeasureT-loop
 μ-loop rose sum₀ k₀ sum k = 16 - k

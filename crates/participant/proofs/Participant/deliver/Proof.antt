@@ -1,7 +1,6 @@
 use borrow.Author.Needs.{needs}
-use Rattle.merging.specs.Merging.{merging}
 use Rattle.site.specs.Fields.{withCodes}
-use Rattle.rules.specs.Rules.{adopt, deliver, hear}
+use Rattle.rules.specs.Rules.{adopt, hear, afterHearing, deliver}
 use Rattle.participant.proofs.Participant.deliver.Statement.{statement}
 use Rattle.participant.proofs.Participant.deliver.Tie as tie
 use Rattle.participant.proofs.Participant.deliver.Reads as reads
@@ -20,11 +19,11 @@ answer-requires : tie.Need-answer-requires
 answer-requires c κs = search needs
 
 returns : tie.Need-returns
-unfolding deliver hear withCodes merging
+unfolding deliver afterHearing hear withCodes
 returns c =
     let a = c .before .before .before .before .before .before .before .args in
     rw (c .before .adopt .ensures, c .before .before .before .merge .ensures) at
-    (c .answer .ensures (adopt (a .self .own) (a .self .n) (hear (a .self .own) (a .self .n) (a .row .codes) (a .self .site)) .records))
+    (c .answer .ensures (adopt (a .self .own) (a .self .n) (hear (a .self .own) (a .self .n) (a .row) (a .self .site)) .records))
 
 pub deliver-spec : {M : Type 1} → statement M
 deliver-spec = tie.close (tie.spec merge-requires adopt-requires answer-requires returns)

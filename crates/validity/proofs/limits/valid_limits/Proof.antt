@@ -3,6 +3,7 @@ use native.Mathlib.Omega.{arith}
 use native.Mathlib.Numerals.{add-one}
 use Prim.Native.Nat.{ℕ, _≤_, _-_}
 use mathlib.Core.Path.{_≡_}
+use Rattle.choice.specs.laws.Stores.{storedTo}
 use Rattle.validity.specs.laws.Limits.{limitsTo}
 use Rattle.validity.proofs.limits.valid_limits.Statement.{statement}
 use Rattle.validity.proofs.limits.valid_limits.Tie as tie
@@ -16,7 +17,7 @@ abbrev μ-loop : tie.MeasureT-loop
 μ-loop n limits₀ k₀ limits k = n - k
 
 loop-holds : tie.Need-loop-holds Inv-loop μ-loop
-unfolding limitsTo
+unfolding limitsTo storedTo
 loop-holds c = (omega arith, search needs)
 
 array-write-limits : tie.Need-array-write-limits Inv-loop μ-loop
@@ -29,7 +30,7 @@ loop-less : tie.Need-loop-less Inv-loop μ-loop
 loop-less c = search needs
 
 loop-again : tie.Need-loop-again Inv-loop μ-loop
-unfolding limitsTo
+unfolding limitsTo storedTo
 loop-again c = (omega arith, rw add-one (cc))
 
 returns : tie.Need-returns Inv-loop μ-loop

@@ -1,3 +1,4 @@
+use Rattle.choice.specs.laws.Stores.{storedTo}
 use Rattle.validity.specs.laws.Limits.{limitsTo}
 use Rattle.validity.specs.laws.LimitLaws.{groupLimits}
 use borrow.Author.Needs.{needs}
@@ -16,7 +17,7 @@ enum-told-3 : tie.Need-enum-told-3
 enum-told-3 c = search needs
 
 returns : tie.Need-returns
-unfolding groupLimits limitsTo
+unfolding groupLimits limitsTo storedTo
 returns c = simp (c .enum-told .given .1)
 
 returns-2 : tie.Need-returns-2
