@@ -57,25 +57,29 @@ fn entries_that_rise_are_counted() {
         ([2, 1, 3, 1], [1, 0, 0, 0], 0),
         ([2, 1, 3, 0], [0, 0, 1, 3], 1),
     ] {
-        for kind in [Kind::Vote, Kind::Prepare, Kind::Outcome] {
-            let (world, store) = told(held, kind, codes);
-            let found = delivered(&world, &store);
-            assert_eq!(found, (Ok(4), news), "{codes:?} told, {held:?} held");
-            let before = World { news: 70, ..world };
-            assert_eq!(delivered(&before, &store).1, 70 + news);
-        }
+        assert_brings(news, held, codes);
+    }
+}
+
+/// Rows with these codes bring so much news, beside what there is already.
+fn assert_brings(news: usize, held: [u8; 4], codes: [u8; 4]) {
+    for kind in [Kind::Vote, Kind::Prepare, Kind::Outcome] {
+        let (world, store) = told(held, kind, codes);
+        let found = delivered(&world, &store);
+        assert_eq!(found, (Ok(4), news), "{codes:?} told, {held:?} held");
+        let before = World { news: 70, ..world };
+        assert_eq!(delivered(&before, &store).1, 70 + news);
     }
 }
 
 #[test]
 fn the_own_entry_is_no_news() {
-    // The row tells more of site 1 than it is.
-    for (codes, news) in [([0, 5, 0, 0], 0), ([0, 2, 0, 0], 0), ([1, 3, 0, 1], 2)] {
-        let (world, store) = told([0, 1, 0, 0], Kind::InGroup, codes);
-        assert_eq!(delivered(&world, &store), (Ok(4), news));
-    }
-    // Site 1 joins a group, and aborts: its own entry changes.
     for (kind, codes, news) in [
+        // The row tells more of site 1 than it is.
+        (Kind::InGroup, [0, 5, 0, 0], 0),
+        (Kind::InGroup, [0, 2, 0, 0], 0),
+        (Kind::InGroup, [1, 3, 0, 1], 2),
+        // Site 1 joins a group, and aborts: its own entry changes.
         (Kind::Join(Side::Abort), [0, 0, 0, 0], 0),
         (Kind::Join(Side::Commit), [2, 0, 0, 0], 1),
         (Kind::Outcome, [5, 0, 0, 0], 1),
@@ -128,18 +132,23 @@ fn a_delivery_reaches_the_limit_and_does_not_pass_it() {
 #[test]
 fn other_commands_bring_no_news() {
     for news in [0, 5, MAX_NEWS] {
-        let (mut world, store) = told([1, 1, 2, 0], Kind::Vote, [0; 4]);
-        world.news = news;
-        world.sites[2].up = false;
-        for (command, size) in [
-            (Start, 1),
-            (Timeout(0), 2),
-            (Timeout(1), 2),
-            (Crash(1), 2),
-            (Recover(2), 2),
-        ] {
-            assert_eq!(after(&world, &store, command), (Ok(size), news));
-        }
+        assert_others_keep(news);
+    }
+}
+
+/// Commands other than DELIVER leave this news as it is.
+fn assert_others_keep(news: usize) {
+    let (mut world, store) = told([1, 1, 2, 0], Kind::Vote, [0; 4]);
+    world.news = news;
+    world.sites[2].up = false;
+    for (command, size) in [
+        (Start, 1),
+        (Timeout(0), 2),
+        (Timeout(1), 2),
+        (Crash(1), 2),
+        (Recover(2), 2),
+    ] {
+        assert_eq!(after(&world, &store, command), (Ok(size), news));
     }
 }
 

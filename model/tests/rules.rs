@@ -125,29 +125,38 @@ fn a_terminated_site_keeps_its_outcome() {
 
 #[test]
 fn every_command_is_answered_in_every_state() {
-    let sites = [
+    for held in [
         site(false, None, None, [0, 0, 0, 0]),
         site(true, None, None, [0, 1, 0, 0]),
         site(true, Some(Side::Commit), None, [0, 2, 0, 0]),
         site(false, Some(Side::Abort), None, [0, 3, 0, 0]),
         site(true, Some(Side::Commit), Some(Side::Commit), [0, 4, 0, 0]),
         site(false, None, Some(Side::Abort), [0, 5, 0, 0]),
-    ];
-    for held in sites {
-        for (command, reply) in [
-            (Kind::Prepare, Kind::Vote),
-            (Kind::Join(Side::Commit), Kind::InGroup),
-            (Kind::Join(Side::Abort), Kind::InGroup),
-            (Kind::Outcome, Kind::Ack),
-        ] {
-            let (site, sent) = told(held, command, 3, [0; 4]);
-            let sent = sent.unwrap();
-            assert_eq!((sent.kind, sent.sender, sent.to), (reply, 1, 8));
-            assert_eq!(sent.vector, site.vector);
-        }
-        for reply in [Kind::Vote, Kind::InGroup, Kind::Ack] {
-            assert_eq!(told(held, reply, 3, [0; 4]), (held, None));
-        }
+    ] {
+        assert_answers_commands(held);
+        assert_answers_no_reply(held);
+    }
+}
+
+/// The site answers every command, with what it knows then.
+fn assert_answers_commands(held: Site) {
+    for (command, reply) in [
+        (Kind::Prepare, Kind::Vote),
+        (Kind::Join(Side::Commit), Kind::InGroup),
+        (Kind::Join(Side::Abort), Kind::InGroup),
+        (Kind::Outcome, Kind::Ack),
+    ] {
+        let (site, sent) = told(held, command, 3, [0; 4]);
+        let sent = sent.unwrap();
+        assert_eq!((sent.kind, sent.sender, sent.to), (reply, 1, 8));
+        assert_eq!(sent.vector, site.vector);
+    }
+}
+
+/// A reply that tells nothing changes nothing.
+fn assert_answers_no_reply(held: Site) {
+    for reply in [Kind::Vote, Kind::InGroup, Kind::Ack] {
+        assert_eq!(told(held, reply, 3, [0; 4]), (held, None));
     }
 }
 
@@ -250,16 +259,21 @@ fn a_restart_with_any_record_changes_nothing_else() {
         site(true, None, Some(Side::Commit), [4, 4, 0, 0]),
         site(false, None, Some(Side::Abort), [0, 5, 0, 0]),
     ] {
-        for role in [Role::Subordinate, Role::Coordinator] {
-            let down = Site {
-                up: false,
-                role,
-                ..held
-            };
-            let (up, sent) = after(down, None, Command::Recover(1));
-            assert_eq!(up, Site { up: true, ..down });
-            assert_eq!(sent, None);
-        }
+        assert_comes_back(held);
+    }
+}
+
+/// The site comes back as it was, whatever its role.
+fn assert_comes_back(held: Site) {
+    for role in [Role::Subordinate, Role::Coordinator] {
+        let down = Site {
+            up: false,
+            role,
+            ..held
+        };
+        let (up, sent) = after(down, None, Command::Recover(1));
+        assert_eq!(up, Site { up: true, ..down });
+        assert_eq!(sent, None);
     }
 }
 

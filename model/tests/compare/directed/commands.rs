@@ -130,7 +130,7 @@ fn reading() -> Vec<Case> {
     let far = [0; MAX_LIST + 7];
     let mut long = far.to_vec();
     long.extend(Timeout(0).bytes());
-    let mut cases = vec![
+    vec![
         Case::bytes("6 none left", 6, &[]),
         Case::bytes("6 none left", 6, &[3, 0]).at(2),
         Case::bytes("6 none left", 6, &[3, 0]).at(3),
@@ -138,57 +138,85 @@ fn reading() -> Vec<Case> {
         Case::bytes("6 none left", 6, &[3, 0]).at(1 << 32),
         Case::bytes("0 a place past 32,768", 0, &long).at(far.len()),
         Case::bytes("0 bytes after the command", 0, &[9, 3, 0, 9]).at(1),
-    ];
-    for byte in [0, 6, 7, 128, 255] {
-        cases.push(Case::bytes("6 not 1 to 5", 6, &[byte, 0, 0, 0]));
-    }
+        Case::bytes("7 operands cut short", 7, &[9, 9, 2, 5, 0]).at(2),
+    ]
+}
+
+fn not_commands() -> Vec<Case> {
+    [0, 6, 7, 128, 255]
+        .map(|byte| Case::bytes("6 not 1 to 5", 6, &[byte, 0, 0, 0]))
+        .into()
+}
+
+fn cut_short() -> Vec<Case> {
     let cut: [&[u8]; 6] = [&[2], &[2, 5], &[2, 5, 0], &[3], &[4], &[5]];
-    for bytes in cut {
-        cases.push(Case::bytes("7 operands cut short", 7, bytes));
+    cut.map(|bytes| Case::bytes("7 operands cut short", 7, bytes))
+        .into()
+}
+
+/// Every command that names a site, at one that is not there.
+fn no_site() -> Vec<Case> {
+    let mut cases = Vec::new();
+    for site in [5, 6, 16, 255] {
+        cases.push(Case::new("8 site n or more", 8, Timeout(site)));
+        cases.push(Case::new("8 site n or more", 8, Crash(site)));
+        cases.push(Case::new("8 site n or more", 8, Recover(site)));
+        cases.push(Case::new("8 site n or more", 8, deliver(5, site)));
+        cases.push(Case::new("8 before 9", 8, deliver(8, site)));
     }
-    cases.push(Case::bytes("7 operands cut short", 7, &[9, 9, 2, 5, 0]).at(2));
     cases
 }
 
-fn operands() -> Vec<Case> {
-    let mut cases = Vec::new();
-    for site in [5, 6, 16, 255] {
-        for command in [Timeout(site), Crash(site), Recover(site), deliver(5, site)] {
-            cases.push(Case::new("8 site n or more", 8, command));
-        }
-        cases.push(Case::new("8 before 9", 8, deliver(8, site)));
-    }
+fn no_row() -> Vec<Case> {
+    let mut cases = vec![
+        Case::new("9 row not below the count", 9, deliver(1_024, 1)).full(),
+        Case::new("9 row not below the count", 9, deliver(0, 1)).world(|w| w.row_count = 0),
+        Case::new("9 before 12", 9, deliver(8, 4)),
+    ];
     for row in [8, 9, 256, 256 + 5, 1_023, 1_024, 65_535] {
         cases.push(Case::new("9 row not below the count", 9, deliver(row, 1)));
     }
-    cases.push(Case::new("9 row not below the count", 9, deliver(1_024, 1)).full());
-    cases.push(Case::new("9 row not below the count", 9, deliver(0, 1)).world(|w| w.row_count = 0));
-    cases.push(Case::new("9 before 12", 9, deliver(8, 4)));
     cases
 }
 
-/// Rows that are bad, and rows that look so.
-fn rows() -> Vec<Case> {
+fn bad_kinds() -> Vec<Case> {
     let mut cases = Vec::new();
     for kind in [0, 8, 255] {
         cases.push(Case::new("10 kind not 1 to 7", 10, deliver(5, 1)).row(0, kind));
         cases.push(Case::new("10 before 11", 10, deliver(5, 0)).row(0, kind));
         cases.push(Case::new("10 before 12", 10, deliver(5, 4)).row(0, kind));
     }
-    for sender in [5, 16, 255] {
-        cases.push(Case::new("10 sender n or more", 10, deliver(5, 1)).row(1, sender));
-    }
-    for sender in 0..5 {
-        cases.push(Case::new("0 any sender below n", 0, deliver(5, 1)).row(1, sender));
-    }
+    cases
+}
+
+/// Senders that are there, and some that are not.
+fn row_senders() -> Vec<Case> {
+    let case = |sender| {
+        let (name, number) = match sender {
+            0..=4 => ("0 any sender below n", 0),
+            _ => ("10 sender n or more", 10),
+        };
+        Case::new(name, number, deliver(5, 1)).row(1, sender)
+    };
+    [0, 1, 2, 3, 4, 5, 16, 255].map(case).into()
+}
+
+/// Codes above 5 of sites that are there.
+fn bad_codes() -> Vec<Case> {
+    let mut cases = Vec::new();
     for entry in 4..4 + 5 {
         cases.push(Case::new("10 code above 5", 10, deliver(5, 1)).row(entry, 6));
         cases.push(Case::new("10 code above 5", 10, deliver(5, 3)).row(entry, 255));
     }
-    for entry in 4 + 5..ROW_BYTES {
-        cases.push(Case::new("0 row codes from n up unread", 0, deliver(5, 1)).row(entry, 255));
-    }
     cases
+}
+
+fn unread_codes() -> Vec<Case> {
+    let case = |entry| {
+        let case = Case::new("0 row codes from n up unread", 0, deliver(5, 1));
+        case.row(entry, 255)
+    };
+    (4 + 5..ROW_BYTES).map(case).collect()
 }
 
 fn destinations() -> Vec<Case> {
@@ -278,9 +306,9 @@ fn divided(w: &mut World) {
     site.vector = vector(&[1, 2, 0, 3, 1]);
 }
 
-/// Each event at each sort of site.
-fn rules() -> Vec<Case> {
-    let mut cases = vec![
+/// START, and RECOVER with an empty log.
+fn beginnings() -> Vec<Case> {
+    vec![
         Case::new("0 START", 0, Start).world(not_started),
         Case::new("0 START unwilling", 0, Start)
             .world(not_started)
@@ -295,76 +323,109 @@ fn rules() -> Vec<Case> {
             .world(not_started)
             .world(dark)
             .world(leaders),
-    ];
-    for site in 0..5 {
-        for edit in [(|_| ()) as Edit, divided, aborted, leaders] {
-            let recover = Case::new("0 RECOVER, a record", 0, Recover(site));
-            cases.push(recover.world(edit).world(dark));
-        }
-    }
-    for site in 0..4 {
-        for edit in [(|_| ()) as Edit, divided, not_started] {
-            cases.push(Case::new("0 CRASH", 0, Crash(site)).world(edit));
-            let timeout = Case::new("0 TIMEOUT", 0, Timeout(site));
-            cases.push(timeout.world(edit));
-            let lead = Case::new("0 TIMEOUT of a coordinator", 0, Timeout(site));
-            cases.push(lead.world(leaders).world(edit));
-        }
-    }
-    for kind in 1..=7 {
-        let joins = Case::new("0 DELIVER in the abort group", 0, deliver(5, 3)).world(divided);
-        cases.push(joins.row(0, kind));
+    ]
+}
+
+/// RECOVER of every site with a record.
+fn recoveries() -> Vec<Case> {
+    (0..5).flat_map(recoveries_of).collect()
+}
+
+fn recoveries_of(site: usize) -> [Case; 4] {
+    [(|_| ()) as Edit, divided, aborted, leaders].map(|edit| {
+        let recover = Case::new("0 RECOVER, a record", 0, Recover(site));
+        recover.world(edit).world(dark)
+    })
+}
+
+/// CRASH and TIMEOUT at each sort of site.
+fn stops() -> Vec<Case> {
+    (0..4).flat_map(stops_at).collect()
+}
+
+fn stops_at(site: usize) -> Vec<Case> {
+    let mut cases = Vec::new();
+    for edit in [(|_| ()) as Edit, divided, not_started] {
+        cases.push(Case::new("0 CRASH", 0, Crash(site)).world(edit));
+        cases.push(Case::new("0 TIMEOUT", 0, Timeout(site)).world(edit));
+        let lead = Case::new("0 TIMEOUT of a coordinator", 0, Timeout(site));
+        cases.push(lead.world(leaders).world(edit));
     }
     cases
+}
+
+/// Every kind of row at a site in the abort group.
+fn in_abort_group() -> Vec<Case> {
+    let joins = |kind| {
+        let case = Case::new("0 DELIVER in the abort group", 0, deliver(5, 3));
+        case.world(divided).row(0, kind)
+    };
+    (1..=7).map(joins).collect()
 }
 
 /// Quorums missed and met.
 fn quorums() -> Vec<Case> {
+    (0..5).flat_map(near_quorums).collect()
+}
+
+/// So many others are known to be in the group of a coordinator, of either side.
+fn near_quorums(known: usize) -> Vec<Case> {
     let mut cases = Vec::new();
-    for known in 0..5 {
-        for (c, a) in [(2, 4), (3, 3), (4, 2)] {
-            for (site, side) in [(0, Side::Commit), (3, Side::Abort)] {
-                let case = Case::new("0 TIMEOUT near the quorum", 0, Timeout(site));
-                let mut case = case.world(divided).world(leaders);
-                case.world.sizes = Sizes::new(5, c, a, everyone(5));
-                let held = &mut case.world.sites[site].vector;
-                let others = (0..5).filter(|&other| other != site);
-                others
-                    .take(known)
-                    .for_each(|other| held.set(other, State::InGroup(side)));
-                cases.push(case);
-            }
-        }
+    for quorums in [(2, 4), (3, 3), (4, 2)] {
+        cases.push(near_quorum(known, quorums, (0, Side::Commit)));
+        cases.push(near_quorum(known, quorums, (3, Side::Abort)));
     }
     cases
 }
 
+fn near_quorum(known: usize, (c, a): (usize, usize), (site, side): (usize, Side)) -> Case {
+    let case = Case::new("0 TIMEOUT near the quorum", 0, Timeout(site));
+    let mut case = case.world(divided).world(leaders);
+    case.world.sizes = Sizes::new(5, c, a, everyone(5));
+    let held = &mut case.world.sites[site].vector;
+    let others = (0..5).filter(|&other| other != site);
+    others
+        .take(known)
+        .for_each(|other| held.set(other, State::InGroup(side)));
+    case
+}
+
 /// Every kind of row with every code at every sort of site.
 fn deliveries() -> Vec<Case> {
-    let mut cases = Vec::new();
-    for kind in 1..=7 {
-        for site in 1..4 {
-            for entry in 0..5 {
-                for code in 0..=5 {
-                    let case = Case::new("0 DELIVER", 0, deliver(5, site));
-                    let case = case.row(0, kind).row(4 + entry, code);
-                    cases.push(case);
-                }
-            }
-        }
-    }
-    cases
+    (1..=7).flat_map(deliveries_of).collect()
+}
+
+fn deliveries_of(kind: u8) -> Vec<Case> {
+    (1..4).flat_map(|site| every_code(kind, site)).collect()
+}
+
+/// Row 5 of this kind to a site, with every code in every entry.
+fn every_code(kind: u8, site: usize) -> Vec<Case> {
+    let case = |at: usize| {
+        let case = Case::new("0 DELIVER", 0, deliver(5, site));
+        case.row(0, kind).row(4 + at / 6, (at % 6) as u8)
+    };
+    (0..5 * 6).map(case).collect()
 }
 
 pub fn commands(both: &mut Comparer) -> Done {
     let groups = [
         reading(),
-        operands(),
-        rows(),
+        not_commands(),
+        cut_short(),
+        no_site(),
+        no_row(),
+        bad_kinds(),
+        row_senders(),
+        bad_codes(),
+        unread_codes(),
         destinations(),
         states(),
         room(),
-        rules(),
+        beginnings(),
+        recoveries(),
+        stops(),
+        in_abort_group(),
         quorums(),
         deliveries(),
     ];

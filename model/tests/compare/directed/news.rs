@@ -102,21 +102,27 @@ fn limit() -> Vec<Bringing> {
 
 /// Commands other than DELIVER, far from the limit and at it.
 fn others() -> Vec<Bringing> {
-    let mut cases = Vec::new();
-    for news in [0, 7, MAX_NEWS] {
-        let start = Case::new("0 news: START", 0, Start).world(not_started);
-        cases.push((0, start.news(news)));
-        for site in 0..4 {
-            let timeout = Case::new("0 news: TIMEOUT", 0, Timeout(site));
-            cases.push((0, timeout.news(news)));
-            let crash = Case::new("0 news: CRASH", 0, Crash(site));
-            cases.push((0, crash.news(news)));
-        }
-        let recover = Case::new("0 news: RECOVER", 0, Recover(4));
-        cases.push((0, recover.news(news)));
-        let restart = Case::new("0 news: RECOVER", 0, Recover(0)).world(not_started);
-        let restart = restart.world(|w| w.sites[0].up = false);
-        cases.push((0, restart.news(news)));
+    let amounts = [0, 7, MAX_NEWS].into_iter();
+    amounts.flat_map(others_with).collect()
+}
+
+/// The same where there is so much news.
+fn others_with(news: usize) -> Vec<Bringing> {
+    let cases = other_commands().into_iter();
+    cases.map(|case| (0, case.news(news))).collect()
+}
+
+fn other_commands() -> Vec<Case> {
+    let mut cases = vec![
+        Case::new("0 news: START", 0, Start).world(not_started),
+        Case::new("0 news: RECOVER", 0, Recover(4)),
+        Case::new("0 news: RECOVER", 0, Recover(0))
+            .world(not_started)
+            .world(|w| w.sites[0].up = false),
+    ];
+    for site in 0..4 {
+        cases.push(Case::new("0 news: TIMEOUT", 0, Timeout(site)));
+        cases.push(Case::new("0 news: CRASH", 0, Crash(site)));
     }
     cases
 }
