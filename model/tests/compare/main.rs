@@ -13,6 +13,7 @@ mod faults;
 mod ffi;
 mod lines;
 
+use std::collections::BTreeMap;
 use std::time::Instant;
 
 use model::calls::{Calls, Model, RESULT_BYTES};
@@ -274,11 +275,12 @@ fn print(both: &Comparer) {
     for (number, count) in &both.numbers {
         println!("number {number:2} seen {count:8}");
     }
-    print_clauses(both);
+    print_clauses(&both.clauses);
 }
 
-fn print_clauses(both: &Comparer) {
-    for (name, count) in &both.clauses {
+/// How often each clause was hit.
+fn print_clauses(clauses: &BTreeMap<&'static str, usize>) {
+    for (name, count) in clauses {
         println!("clause {name}: {count}");
     }
 }

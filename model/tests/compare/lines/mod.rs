@@ -175,9 +175,7 @@ fn print(both: &LineComparer) {
     for ((way, number), count) in &both.numbers {
         println!("{way:?} number {number:2} seen {count:8}");
     }
-    for (name, count) in &both.clauses {
-        println!("clause {name}: {count}");
-    }
+    crate::print_clauses(&both.clauses);
 }
 
 #[test]
