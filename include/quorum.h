@@ -14,7 +14,7 @@
  * - Numbers in buffers have their low byte first. A world is QC_WORLD_BYTES bytes, laid out as docs/LAYOUT.md says; a C program need only keep
  *   it and hand it back.
  * - The answer is QC_ACCEPTED, or the number of the first check that failed. They are made in the order 16, 17, 1 to 15, 18; last of all, for a
- *   delivery, 17 again (see NEWS). The two calls between lists and lines have an order of their own (see LINES).
+ *   delivery, 17 again (see NEWS). The two calls between lists and lines have an order of their own (see LINES); qc_write_quiet has 17, 3, 4, 20.
  *
  * A list is a header of QC_HEADER_BYTES bytes and then commands:
  *     header      n, the number of sites; C, the commit quorum; A, the abort quorum; the willing sites as 16 bits, bit i for site i
@@ -89,9 +89,9 @@
 #include <stdint.h>
 
 /* The major number goes up when a program may have to change, the minor one when something is added. Version 3: a world has its news (layout 2),
- * and the report's first line ends with it. 3.1 adds lists as lines, with 19 and 20. */
+ * and the report's first line ends with it. 3.1 adds lists as lines, with 19 and 20. 3.2 adds the list of a quiet day. */
 #define QC_VERSION_MAJOR 3
-#define QC_VERSION_MINOR 1
+#define QC_VERSION_MINOR 2
 #define QC_LAYOUT 2 /* of a world's bytes: its first byte */
 
 #define QC_SITES 16              /* site records of a world, and codes of a row */
@@ -99,17 +99,19 @@
 #define QC_NEWS 491520           /* news: at most */
 #define QC_HEADER_BYTES 5        /* a list's header */
 #define QC_LIST_BYTES 32768      /* a whole list: at most */
+#define QC_QUIET_BYTES 370       /* a quiet day's list: at most; a buffer of as many always has room for it */
 #define QC_TEXT_BYTES 196620     /* a list's text: at most; a buffer of as many always has room for it */
 #define QC_ROW_BYTES 20          /* a row */
 #define QC_WORLD_BYTES 656       /* a world: exactly */
 #define QC_STORE_BYTES 20480     /* a store of rows: at least */
 #define QC_REPORT_BYTES 1024     /* a report buffer: at least */
 #define QC_RESULT_BYTES 8        /* a result of the calls that play or report: exactly */
-#define QC_LINES_RESULT_BYTES 16 /* a result of the two calls between lists and lines: exactly */
+#define QC_LINES_RESULT_BYTES 16 /* a result of the calls that write a list or its lines: exactly */
 
 /* Every answer: its name, number and meaning. 17 is a world or result of another length than it must have, a world's bytes outside the layout, a
  * world whose values do not fit together or whose news is over 491,520, for the report also an event count, place or number out of its range, and,
- * checked last, after 15, a delivery that would bring the news over 491,520. 19 is met by qc_read_lines alone, 20 by it and qc_write_lines. */
+ * checked last, after 15, a delivery that would bring the news over 491,520. 19 is met by qc_read_lines alone, 20 by it,
+ * qc_write_lines and qc_write_quiet. */
 #define QC_ANSWERS(answer)                                                                                      \
     answer(QC_ACCEPTED, 0, "accepted")                                                                          \
     answer(QC_LIST_LONG, 1, "the list is longer than 32,768 bytes")                                             \
@@ -225,6 +227,17 @@ uint32_t qc_write_lines(const uint8_t *list, size_t list_length,
 uint32_t qc_read_lines(const uint8_t *text, size_t text_length,
                        uint8_t *buffer, size_t buffer_length,
                        uint8_t *result, size_t result_length);
+
+/* Write the list of a quiet day: all sites are willing, none goes down, and nothing is lost, late or repeated. START and two TIMEOUTs make site 0 send
+ * its commands, rows 0, n and 2 n. Each is delivered to all other sites, from site 1 up; after that their replies, the n - 1 rows after it, to site 0.
+ * n, commit, abort: the sizes n, C and A.
+ * buffer: may hold anything; gets the list from its beginning, and is left as it was beyond it. The list has 10 + 24 (n - 1) bytes; QC_QUIET_BYTES
+ *         bytes are always enough.
+ * result: QC_LINES_RESULT_BYTES bytes. 0 to 7 get the list's length, 64 bits, or 0 where the call is refused; 8 to 15 the place, which is always 0 here.
+ * Gives 0 if written; else 17 for the result, and nothing is touched; or 3 for n, 4 for C or A, 20 for the buffer, and the buffer is untouched. */
+uint32_t qc_write_quiet(size_t n, size_t commit, size_t abort,
+                        uint8_t *buffer, size_t buffer_length,
+                        uint8_t *result, size_t result_length);
 
 #ifdef __cplusplus
 }

@@ -1,5 +1,6 @@
 #!/usr/bin/env bash
-# The library from C: the headers, their readers, the cases around every number and the examples, built strictly and run. Wants target/staticlib/libquorum.a.
+# The library from C: the headers, their readers, the cases around every number, the quiet day and the examples, built strictly and run.
+# Wants target/staticlib/libquorum.a.
 set -euo pipefail
 cd "$(dirname "$0")/.."
 strict=(-Wall -Wextra -Werror -pedantic -Iinclude)
@@ -34,6 +35,8 @@ build readers "${readers[@]}"
 target/readers
 build cases tests/cases/*.c
 target/cases
+build quiet_day tests/quiet_day.c
+target/quiet_day
 
 build play_day examples/play_day.c
 for list in '' examples/m3.bin; do
@@ -52,6 +55,29 @@ done
 status 2 target/play_day "$work/missing"
 status 2 target/play_day "$work"
 echo "C: play_day prints every vector's report; 0, 1 ($refused lists) and 2 as its exit status"
+
+build quiet_list examples/quiet_list.c
+quiet() { # N C A EVENTS ROWS NEWS: the quiet day's list, as play_day plays it
+    status 0 target/quiet_list "$1" "$2" "$3"
+    mv "$work/got" "$work/quiet"
+    status 0 target/play_day "$work/quiet"
+    [ "$(head -n 1 "$work/got")" = "sites $1 commit $2 abort $3 events $4 rows $5 news $6" ] || fail "quiet_list: $1 $2 $3 is not played so"
+    [ "$(grep -c ' committed PCc ' "$work/got")" -eq "$1" ] || fail "quiet_list: $1 $2 $3 does not commit everywhere"
+}
+quiet 3 2 2 15 9 16
+quiet 8 7 2 45 24 126
+quiet 16 9 8 93 48 510
+status 1 target/quiet_list 2 2 2
+status 1 target/quiet_list 16 8 8
+status 2 target/quiet_list 3 2
+status 2 target/quiet_list 3 2 two
+status 2 target/quiet_list 3 2 99999999999999999999
+if [ -w /dev/full ]; then
+    exited=0
+    target/quiet_list 3 2 2 > /dev/full 2> "$work/errors" || exited=$?
+    [ "$exited" -eq 2 ] || fail "quiet_list: a full disk is not noticed"
+fi
+echo "C: quiet_list writes days that commit everywhere; 0, 1 and 2 as its exit status"
 
 build play_lines examples/play_lines.c
 status 0 target/play_lines examples/m3.txt

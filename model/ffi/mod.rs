@@ -4,6 +4,7 @@
 #![allow(unsafe_code)]
 
 use model::calls::Calls;
+use model::quiet::Asked;
 use model::{Ask, Numbers};
 
 #[link(name = "quorum", kind = "static")]
@@ -55,6 +56,16 @@ extern "C" {
     fn qc_read_lines(
         text: *const u8,
         text_len: usize,
+        buffer: *mut u8,
+        buffer_len: usize,
+        result: *mut u8,
+        result_len: usize,
+    ) -> u32;
+
+    fn qc_write_quiet(
+        n: usize,
+        commit: usize,
+        abort: usize,
         buffer: *mut u8,
         buffer_len: usize,
         result: *mut u8,
@@ -137,6 +148,22 @@ impl Calls for Library {
             qc_read_lines(
                 text.as_ptr(),
                 text.len(),
+                buffer.as_mut_ptr(),
+                buffer.len(),
+                result.as_mut_ptr(),
+                result.len(),
+            )
+        }
+    }
+
+    fn write_quiet(&self, asked: Asked, buffer: &mut [u8], result: &mut [u8]) -> u32 {
+        let [n, commit, abort] = asked;
+        // SAFETY: as above.
+        unsafe {
+            qc_write_quiet(
+                n,
+                commit,
+                abort,
                 buffer.as_mut_ptr(),
                 buffer.len(),
                 result.as_mut_ptr(),

@@ -1,4 +1,4 @@
-//! The five calls offered to C, on bytes, as the model answers them:
+//! The six calls offered to C, on bytes, as the model answers them:
 //! docs/LAYOUT.md.
 
 use crate::command::Ask;
@@ -6,16 +6,17 @@ use crate::layout::{decode, encode, update, WORLD_BYTES};
 use crate::lines::{read_lines, write_lines, Output};
 use crate::number;
 use crate::play::{check_store, play_command, play_list_by, Played};
+use crate::quiet::{write_quiet, Asked};
 use crate::report::{report, Numbers};
 use crate::world::World;
 
 /// Bytes of the result buffer of a call that plays or reports.
 pub const RESULT_BYTES: usize = 8;
-/// Bytes of the result buffer of a call on lines: the output's length, and the
-/// place.
+/// Bytes of the result buffer of a call that writes or reads lines, or writes a
+/// quiet day's list: the output's length, and the place.
 pub const LINES_RESULT_BYTES: usize = 16;
 
-/// One side of a comparison: anything that answers the five calls.
+/// One side of a comparison: anything that answers the six calls.
 pub trait Calls {
     /// A whole list; the world and the result are written where they have their
     /// lengths.
@@ -33,6 +34,9 @@ pub trait Calls {
 
     /// Lines as a list, likewise.
     fn read_lines(&self, text: &[u8], buffer: &mut [u8], result: &mut [u8]) -> u32;
+
+    /// The list of the quiet day of n sites with C and A, likewise.
+    fn write_quiet(&self, asked: Asked, buffer: &mut [u8], result: &mut [u8]) -> u32;
 }
 
 /// The rules behind the calls: what a player does with worlds. As they stand
@@ -62,6 +66,11 @@ pub trait Rules {
     /// Lines as a list.
     fn read(&self, text: &[u8], buffer: &mut [u8]) -> Output {
         read_lines(text, buffer)
+    }
+
+    /// The list of a quiet day.
+    fn quiet(&self, asked: Asked, buffer: &mut [u8]) -> Output {
+        write_quiet(asked, buffer)
     }
 }
 
@@ -99,11 +108,15 @@ impl<R: Rules> Calls for R {
     }
 
     fn write_lines(&self, list: &[u8], buffer: &mut [u8], result: &mut [u8]) -> u32 {
-        answer_lines(result, || self.written(list, buffer))
+        answer_output(result, || self.written(list, buffer))
     }
 
     fn read_lines(&self, text: &[u8], buffer: &mut [u8], result: &mut [u8]) -> u32 {
-        answer_lines(result, || self.read(text, buffer))
+        answer_output(result, || self.read(text, buffer))
+    }
+
+    fn write_quiet(&self, asked: Asked, buffer: &mut [u8], result: &mut [u8]) -> u32 {
+        answer_output(result, || self.quiet(asked, buffer))
     }
 }
 
@@ -126,9 +139,9 @@ fn answer(found: Result<usize, u8>, result: &mut [u8]) -> u32 {
     }
 }
 
-/// Writes what a call on lines gives into the result, accepted or refused;
+/// Writes what a call gives beside its buffer into the result, accepted or refused;
 /// nothing is done where the result has another length.
-fn answer_lines(result: &mut [u8], call: impl FnOnce() -> Output) -> u32 {
+fn answer_output(result: &mut [u8], call: impl FnOnce() -> Output) -> u32 {
     if result.len() != LINES_RESULT_BYTES {
         return number::WORLD.into();
     }

@@ -1,6 +1,7 @@
 //! The commands of a list.
 
 use crate::number;
+use crate::sizes::Sizes;
 
 /// A list and the place of a command byte in it.
 #[derive(Clone, Copy, Debug)]
@@ -77,4 +78,10 @@ impl Command {
             Command::Timeout(site) | Command::Crash(site) | Command::Recover(site) => site,
         }
     }
+}
+
+/// A list of commands.
+pub fn list_of(sizes: Sizes, commands: &[Command]) -> Vec<u8> {
+    let commands = commands.iter().flat_map(|command| command.bytes());
+    sizes.header().into_iter().chain(commands).collect()
 }

@@ -12,7 +12,7 @@ mod unplayed;
 pub use call::Call;
 pub use rng::Rng;
 
-use crate::command::Command;
+use crate::quiet::{self, Replies};
 use crate::sizes::{everyone, Sizes, HEADER_BYTES, MAX_LIST, MAX_SITES, MIN_SITES};
 use guide::Guide;
 use header::{quorums, sizes};
@@ -120,8 +120,9 @@ impl Generator {
 
     /// A quiet day of any sizes.
     pub fn next_quiet(&mut self) -> Vec<u8> {
-        let [n, c, a, ..] = sizes(&mut self.rng).header();
-        quiet_day(n, c, a)
+        let sizes = sizes(&mut self.rng);
+        let asked = [sizes.n, sizes.commit_quorum, sizes.abort_quorum];
+        quiet::list(asked, Replies::Last)
     }
 
     /// A duel of any size.
@@ -171,27 +172,6 @@ impl Generator {
             _ => byte.wrapping_add(self.rng.between(1, 255) as u8),
         }
     }
-}
-
-/// A list of commands.
-pub fn list_of(sizes: Sizes, commands: &[Command]) -> Vec<u8> {
-    let commands = commands.iter().flat_map(|command| command.bytes());
-    sizes.header().into_iter().chain(commands).collect()
-}
-
-/// A day without trouble: everyone prepares, joins and commits. That is
-/// 3 + 6(n - 1) commands and 3n rows.
-pub fn quiet_day(n: u8, c: u8, a: u8) -> Vec<u8> {
-    let n = usize::from(n);
-    let mut commands = Vec::new();
-    let openings = [Command::Start, Command::Timeout(0), Command::Timeout(0)];
-    for (round, opening) in openings.into_iter().enumerate() {
-        let row = round * n;
-        commands.push(opening);
-        commands.extend((1..n).map(|site| Command::deliver(row, site)));
-        commands.extend((1..n).map(|reply| Command::deliver(row + reply, 0)));
-    }
-    list_of(Sizes::new(n, c.into(), a.into(), everyone(n)), &commands)
 }
 
 /// A long duel that nobody wins: joins for both groups, crashes, repeats,

@@ -1,9 +1,10 @@
 //! An independent model of the quorum commitment player for inter-club sheets.
 //!
-//! The rules, the checks, the report and the lines are written from documents 01
-//! and 02, with mutable state and plain Rust, so that another player can be
-//! compared with them. Only layout.rs and calls.rs follow docs/LAYOUT.md: they say
-//! how a world and the answers cross to C.
+//! The rules, the checks, the report, the lines and the quiet day's list are written
+//! from documents 01 and 02, with mutable state and plain Rust, so that another player
+//! can be compared with them. Only layout.rs and calls.rs follow docs/LAYOUT.md: they
+//! say how a world and the answers cross to C. The call that writes the quiet day's
+//! list, with the order of its refusals, is in no paper but in docs/DECISIONS.md, 69.
 
 #![forbid(unsafe_code)]
 
@@ -17,6 +18,7 @@ pub mod meeting;
 pub mod number;
 pub mod play;
 pub mod player;
+pub mod quiet;
 pub mod report;
 pub mod row;
 pub mod site;
@@ -31,6 +33,7 @@ pub use command::{Ask, Command};
 pub use lines::{read_lines, write_lines, Output};
 pub use play::{one_command, play_list, Played};
 pub use player::printed;
+pub use quiet::{write_quiet, Replies};
 pub use report::{report, Numbers};
 pub use row::{Kind, Row};
 pub use site::{GroupRecord, Log, Role, Site};

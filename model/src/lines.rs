@@ -25,14 +25,15 @@ impl Refusal {
     }
 }
 
-/// What writing or reading lines gives beside the buffer.
+/// What a call that writes or reads lines, or writes a list, gives beside the
+/// buffer.
 #[derive(Clone, Copy, Debug, PartialEq, Eq)]
 pub struct Output {
     /// The stop number, 0 for none.
     pub number: u8,
     /// How many bytes of the buffer are the output, 0 at a refusal.
     pub length: usize,
-    /// The input's end, or the refusal's place.
+    /// The input's end, 0 where there is no input, or the refusal's place.
     pub place: usize,
 }
 
@@ -48,19 +49,18 @@ impl From<Refusal> for Output {
 
 /// Writes a list as lines.
 pub fn write_lines(list: &[u8], buffer: &mut [u8]) -> Output {
-    let text = text_of(list);
-    put(list, text, buffer)
+    put(list.len(), text_of(list), buffer)
 }
 
 /// Reads lines as a list.
 pub fn read_lines(text: &[u8], buffer: &mut [u8]) -> Output {
-    let list = list_spelled(text);
-    put(text, list, buffer)
+    put(text.len(), list_spelled(text), buffer)
 }
 
-/// Puts what was made of an input into the buffer, after check 20. A refusal
-/// leaves the buffer as it was, and so are the bytes beyond the output.
-fn put(input: &[u8], made: Result<Vec<u8>, Refusal>, buffer: &mut [u8]) -> Output {
+/// Puts what was made of an input into the buffer, after check 20; gives the
+/// input's end. A refusal leaves the buffer as it was, and so are the bytes beyond
+/// the output.
+pub(crate) fn put(end: usize, made: Result<Vec<u8>, Refusal>, buffer: &mut [u8]) -> Output {
     let made = match made {
         Ok(made) if made.len() > buffer.len() => return Refusal::at_start(number::ROOM).into(),
         Ok(made) => made,
@@ -70,6 +70,6 @@ fn put(input: &[u8], made: Result<Vec<u8>, Refusal>, buffer: &mut [u8]) -> Outpu
     Output {
         number: number::NONE,
         length: made.len(),
-        place: input.len(),
+        place: end,
     }
 }

@@ -2,7 +2,7 @@
 
 mod common;
 
-use model::generate::{list_of, quiet_day};
+use model::command::list_of;
 use model::row::{ROW_BYTES, STORE_BYTES};
 use model::{play_list, printed, Command, Kind, Played, Row, Side, Site, Sizes, State, World};
 
@@ -225,29 +225,6 @@ fn a_full_store_still_takes_what_adds_no_row() {
     let day = Day::new(&three(7, &commands));
     day.assert_accepted(1029, 1024, 0);
     assert_eq!(day.log(2), (false, None, Some(Side::Abort)));
-}
-
-/// Prepares tell n - 1 sites of site 0. A join or an outcome tells each of n - 1
-/// sites of all the others, n - 1 entries: of site 0 its next state, of the rest
-/// the state that they were in before. Each of three times n - 1 replies tells
-/// site 0 of its sender alone. That is 4(n - 1) + 2(n - 1)².
-#[test]
-fn a_quiet_day_commits_everywhere() {
-    let sizes = (3..=16u8).flat_map(|n| [(n, 2), (n, n - 1)]);
-    for (n, abort) in sizes {
-        let day = Day::new(&quiet_day(n, n - 1, abort));
-        let n = usize::from(n);
-        let others = n - 1;
-        let news = 4 * others + 2 * others * others;
-        day.assert_accepted(3 + 6 * others, 3 * n, news);
-        for site in 0..n {
-            assert_eq!(
-                day.log(site),
-                (true, Some(Side::Commit), Some(Side::Commit))
-            );
-        }
-        assert!(day.codes(0).iter().all(|&code| code == 4));
-    }
 }
 
 #[test]

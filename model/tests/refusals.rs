@@ -3,11 +3,11 @@
 mod common;
 
 use model::calls::{Calls, Model, RESULT_BYTES};
-use model::generate::quiet_day;
 use model::layout::{encode, CODES, GROUP_CODES, HEAD_BYTES, SITE_BYTES};
+use model::quiet;
 use model::row::{Row, ROW_BYTES, STORE_BYTES};
 use model::{number, one_command, play_list, printed, Ask, Command, Kind, Numbers};
-use model::{GroupRecord, Role, Side, Site, Sizes, State, Vector, World};
+use model::{GroupRecord, Replies, Role, Side, Site, Sizes, State, Vector, World};
 
 use common::{group, header, three_sites, vector};
 
@@ -44,7 +44,7 @@ fn deliver(row: usize, site: usize) -> Vec<u8> {
 #[test]
 fn list_lengths() {
     let mut store = vec![9; STORE_BYTES];
-    let mut list = quiet_day(3, 2, 2);
+    let mut list = quiet::list([3, 2, 2], Replies::Last);
     list.resize(32_769, 0);
     assert_eq!(play_list(&mut store, &list).number, number::LIST_LONG);
     assert_eq!(play_list(&mut store, &list[..4]).number, number::LIST_SHORT);

@@ -19,6 +19,7 @@ void report_cases(void);
 void line_cases(void);
 void bad_line_cases(void);
 void long_line_cases(void);
+void quiet_cases(void);
 
 /* The case that is played from here on; and what was got of it. */
 void begin(const char *name);

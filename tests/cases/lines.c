@@ -69,9 +69,18 @@ static const struct line_case lists[] = {
     {"6 before a later 7", BYTES(HEADER, 1, 6, 3), 6, 6},
 };
 
-static struct lent {
-    uint8_t buffer[QC_TEXT_BYTES + 1], result[QC_LINES_RESULT_BYTES + 1];
-} now, wanted;
+const struct bad_result bad_results[BAD_RESULTS] = {
+    {"17 a result of no bytes", 0}, {"17 a result of 8 bytes", 8}, {"17 a result of 15 bytes", 15}, {"17 a result of 17 bytes", 17},
+};
+
+static struct lent now, wanted;
+
+struct lent *lend(void)
+{
+    memset(&now, 0xee, sizeof now);
+    memset(&wanted, 0xee, sizeof wanted);
+    return &now;
+}
 
 static void put_number64(uint8_t *bytes, uint64_t number)
 {
@@ -80,18 +89,28 @@ static void put_number64(uint8_t *bytes, uint64_t number)
         bytes[byte] = (uint8_t)(number >> 8 * byte);
 }
 
-/* Calls with a buffer of so much room, and asks for every byte of buffer and result. A refused call has an output of length 0. */
-static void expect_lines(lines_call *call, size_t room, const struct line_case *given, const uint8_t *output, size_t output_length)
+void expect_left(unsigned got, unsigned answer, uint64_t place, const uint8_t *output, size_t output_length)
 {
-    memset(&now, 0xee, sizeof now);
-    memset(&wanted, 0xee, sizeof wanted);
     memcpy(wanted.buffer, output, output_length);
     put_number64(wanted.result, output_length);
-    put_number64(wanted.result + 8, given->place);
-    expect("number", call(given->input, given->length, now.buffer, room, now.result, QC_LINES_RESULT_BYTES), given->answer);
+    put_number64(wanted.result + 8, place);
+    expect("number", got, answer);
     expect("length", qc_lines_length(now.result), output_length);
-    expect("place", qc_lines_place(now.result), given->place);
+    expect("place", qc_lines_place(now.result), place);
     expect("other bytes in a buffer", memcmp(&now, &wanted, sizeof now) != 0, 0);
+}
+
+void expect_untouched(void)
+{
+    expect("buffers changed", memcmp(&now, &wanted, sizeof now) != 0, 0);
+}
+
+/* Calls with a buffer of so much room. */
+static void expect_lines(lines_call *call, size_t room, const struct line_case *given, const uint8_t *output, size_t output_length)
+{
+    struct lent *lent = lend();
+    unsigned got = call(given->input, given->length, lent->buffer, room, lent->result, QC_LINES_RESULT_BYTES);
+    expect_left(got, given->answer, given->place, output, output_length);
 }
 
 /* Refused alike with much room and with none, since 20 comes last. */
@@ -130,20 +149,13 @@ void both_ways(const struct pair *one)
 /* A result of another length is 17 before everything else, whatever is handed in, and nothing is touched. */
 static void results(lines_call *call, const uint8_t *input, size_t length)
 {
-    static const struct {
-        const char *name;
-        size_t length;
-    } lengths[] = {
-        {"17 a result of no bytes", 0}, {"17 a result of 8 bytes", 8}, {"17 a result of 15 bytes", 15}, {"17 a result of 17 bytes", 17},
-    };
     size_t i;
-    memset(&wanted, 0xee, sizeof wanted);
-    for (i = 0; i < COUNT(lengths); i++) {
-        begin(lengths[i].name);
-        now = wanted;
-        expect("number", call(input, length, now.buffer, sizeof now.buffer, now.result, lengths[i].length), QC_BAD_WORLD);
-        expect("number with no room", call(input, length, now.buffer, 0, now.result, lengths[i].length), QC_BAD_WORLD);
-        expect("buffers changed", memcmp(&now, &wanted, sizeof now) != 0, 0);
+    for (i = 0; i < BAD_RESULTS; i++) {
+        struct lent *lent = lend();
+        begin(bad_results[i].name);
+        expect("number", call(input, length, lent->buffer, sizeof lent->buffer, lent->result, bad_results[i].length), QC_BAD_WORLD);
+        expect("number with no room", call(input, length, lent->buffer, 0, lent->result, bad_results[i].length), QC_BAD_WORLD);
+        expect_untouched();
     }
 }
 

@@ -1,4 +1,4 @@
-/* What the cases of lists as lines share. */
+/* What the cases of lists as lines share, and those of a quiet day. */
 #ifndef LINES_H
 #define LINES_H
 
@@ -10,6 +10,27 @@
 
 /* A text written in a table, and its length. */
 #define TEXT(text) (const uint8_t *)(text), sizeof(text) - 1
+
+/* The buffers lent to a call that writes a list or its lines. */
+struct lent {
+    uint8_t buffer[QC_TEXT_BYTES + 1], result[QC_LINES_RESULT_BYTES + 1];
+};
+
+/* Them before a call, every byte 0xee. */
+struct lent *lend(void);
+
+/* After it: the number it gave, the one it must give, and every byte. A refused call has an output of length 0. */
+void expect_left(unsigned got, unsigned answer, uint64_t place, const uint8_t *output, size_t output_length);
+void expect_untouched(void);
+
+/* A length that a result must not have: 17, before everything else. */
+struct bad_result {
+    const char *name;
+    size_t length;
+};
+
+#define BAD_RESULTS 4
+extern const struct bad_result bad_results[BAD_RESULTS];
 
 /* qc_write_lines or qc_read_lines. */
 typedef uint32_t lines_call(const uint8_t *, size_t, uint8_t *, size_t, uint8_t *, size_t);

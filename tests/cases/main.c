@@ -73,6 +73,7 @@ int main(void)
     line_cases();
     bad_line_cases();
     long_line_cases();
+    quiet_cases();
     printf("cases: %u cases, around the numbers 1 to 20 and of merging\n", cases);
     return 0;
 }

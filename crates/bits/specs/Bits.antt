@@ -11,6 +11,10 @@ hasBit bits site = eqb (bits / 2 ^ site % 2) 1
 unfoldable pub onlySite : ℕ → ℕ
 onlySite site = 2 ^ site
 
+-- all sites below n
+unfoldable pub everySite : ℕ → ℕ
+everySite n = 2 ^ n - 1
+
 -- all sites below n but one
 unfoldable pub otherSites : ℕ → ℕ → ℕ
-otherSites n own = 2 ^ n - 1 - 2 ^ own
+otherSites n own = everySite n - 2 ^ own

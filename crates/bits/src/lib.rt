@@ -1,7 +1,7 @@
 // Sets of sites as bits.
 ghost use mathlib.Core.Path.{_≡_};
 ghost use Prim.Native.Nat.{_^_, _≤_, _<_};
-ghost use Rattle.bits.specs.Bits.{hasBit, onlySite, otherSites};
+ghost use Rattle.bits.specs.Bits.{hasBit, onlySite, everySite, otherSites};
 
 // The set of one site.
 pub fn only_site(site: usize) -> usize
@@ -9,6 +9,14 @@ pub fn only_site(site: usize) -> usize
     ensures { λ r. ⌜ r ≡ onlySite site ⌝ }
 {
     1 << site
+}
+
+// All sites below n.
+pub fn every_site(n: usize) -> usize
+    requires { ⌜ n ≤ 16 ⌝ }
+    ensures { λ r. ⌜ r ≡ everySite n ⌝ }
+{
+    only_site(n) - 1
 }
 
 // All sites below n but one.

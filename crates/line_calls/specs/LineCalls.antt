@@ -1,4 +1,4 @@
--- The calls on lines offered to C: number, and every byte of every buffer that is lent.
+-- The calls offered to C that write a list or its lines into a lent buffer: number, and every byte of every buffer that is lent.
 -- 17: a result of another length than 16; then the call's own numbers.
 use Prim.Native.Nat.{ℕ}
 use mathlib.Core.List.{List}
@@ -12,7 +12,7 @@ use Rattle.spelling.specs.WriteRead.{Output}
 abbrev pub linesResultBytes : ℕ
 linesResultBytes = 16
 
--- what a call on lines leaves
+-- what such a call leaves
 pub record LinesLeft : Type 0 where
   pub number : ℕ
   pub buffer : List ℕ
@@ -27,8 +27,8 @@ leaveLines o result =
       result = putNumber 8 (putNumber 8 result 0 (o .answer .length)) 8 (o .answer .place);
     }
 
--- WRITING OR READING LINES. Length 0 and the place are written at a refusal too; at 17 no buffer is touched
-unfoldable pub linesCall : (List ℕ → List ℕ → Output) → List ℕ → List ℕ → List ℕ → LinesLeft
-linesCall call input buffer result =
-    pick (eqb (length result) linesResultBytes) (leaveLines (call input buffer) result)
+-- WRITING INTO A BUFFER, whatever call it is, its other operands given. Length 0 and the place are written at a refusal too; at 17 no buffer is touched
+unfoldable pub linesCall : (List ℕ → Output) → List ℕ → List ℕ → LinesLeft
+linesCall call buffer result =
+    pick (eqb (length result) linesResultBytes) (leaveLines (call buffer) result)
     (record { number = 17; buffer = buffer; result = result })

@@ -1,10 +1,13 @@
-// What the calls on lines offered to C are made of: the output's length and the place go into a result of 16 bytes.
+// What the calls offered to C that write into a lent buffer are made of: the output's length and the place go into a result of 16 bytes.
 ghost use mathlib.Core.Path.{_≡_};
 ghost use lib.Dec.{eqb};
 ghost use lib.ListN.{length};
 ghost use Rattle.layout.specs.Numbers.{putNumber};
 ghost use Rattle.spelling.specs.WriteRead.{writeLines, readLines};
+ghost use Rattle.quiet.specs.QuietList.{writeQuiet};
 ghost use Rattle.line_calls.specs.LineCalls.{linesResultBytes, linesCall};
+use site::AbortQuorum;
+use site::CommitQuorum;
 use spelling::Spelled;
 
 // The length of these calls' result buffer.
@@ -30,9 +33,9 @@ fn put_answer(result: &mut [u8], spelled: Spelled) -> u32
 
 // Writing lines.
 pub fn write_call(list: &[u8], buffer: &mut [u8], result: &mut [u8]) -> u32
-    ensures { λ r. ⌜ r ≡ linesCall writeLines (now (list .entry)) (now (buffer .entry)) (now (result .entry)) .number ⌝ }
-    ensures { λ _. ⌜ now (buffer .exit) ≡ linesCall writeLines (now (list .entry)) (now (buffer .entry)) (now (result .entry)) .buffer ⌝ }
-    ensures { λ _. ⌜ now (result .exit) ≡ linesCall writeLines (now (list .entry)) (now (buffer .entry)) (now (result .entry)) .result ⌝ }
+    ensures { λ r. ⌜ r ≡ linesCall (writeLines (now (list .entry))) (now (buffer .entry)) (now (result .entry)) .number ⌝ }
+    ensures { λ _. ⌜ now (buffer .exit) ≡ linesCall (writeLines (now (list .entry))) (now (buffer .entry)) (now (result .entry)) .buffer ⌝ }
+    ensures { λ _. ⌜ now (result .exit) ≡ linesCall (writeLines (now (list .entry))) (now (buffer .entry)) (now (result .entry)) .result ⌝ }
 {
     if !is_result(result) {
         return 17;
@@ -43,13 +46,32 @@ pub fn write_call(list: &[u8], buffer: &mut [u8], result: &mut [u8]) -> u32
 
 // Reading lines.
 pub fn read_call(text: &[u8], buffer: &mut [u8], result: &mut [u8]) -> u32
-    ensures { λ r. ⌜ r ≡ linesCall readLines (now (text .entry)) (now (buffer .entry)) (now (result .entry)) .number ⌝ }
-    ensures { λ _. ⌜ now (buffer .exit) ≡ linesCall readLines (now (text .entry)) (now (buffer .entry)) (now (result .entry)) .buffer ⌝ }
-    ensures { λ _. ⌜ now (result .exit) ≡ linesCall readLines (now (text .entry)) (now (buffer .entry)) (now (result .entry)) .result ⌝ }
+    ensures { λ r. ⌜ r ≡ linesCall (readLines (now (text .entry))) (now (buffer .entry)) (now (result .entry)) .number ⌝ }
+    ensures { λ _. ⌜ now (buffer .exit) ≡ linesCall (readLines (now (text .entry))) (now (buffer .entry)) (now (result .entry)) .buffer ⌝ }
+    ensures { λ _. ⌜ now (result .exit) ≡ linesCall (readLines (now (text .entry))) (now (buffer .entry)) (now (result .entry)) .result ⌝ }
 {
     if !is_result(result) {
         return 17;
     }
     let spelled = read_lines::read_lines(text, buffer);
+    put_answer(result, spelled)
+}
+
+// Writing the quiet day.
+pub fn quiet_call(
+    n: usize,
+    commit: usize,
+    abort: usize,
+    buffer: &mut [u8],
+    result: &mut [u8],
+) -> u32
+    ensures { λ r. ⌜ r ≡ linesCall (writeQuiet n (record { 0 = commit }) (record { 0 = abort })) (now (buffer .entry)) (now (result .entry)) .number ⌝ }
+    ensures { λ _. ⌜ now (buffer .exit) ≡ linesCall (writeQuiet n (record { 0 = commit }) (record { 0 = abort })) (now (buffer .entry)) (now (result .entry)) .buffer ⌝ }
+    ensures { λ _. ⌜ now (result .exit) ≡ linesCall (writeQuiet n (record { 0 = commit }) (record { 0 = abort })) (now (buffer .entry)) (now (result .entry)) .result ⌝ }
+{
+    if !is_result(result) {
+        return 17;
+    }
+    let spelled = quiet::write_quiet(n, CommitQuorum(commit), AbortQuorum(abort), buffer);
     put_answer(result, spelled)
 }

@@ -1,6 +1,7 @@
 // The calls offered to C, on byte slices and numbers. docs/LAYOUT.md has the bytes; include/quorum.h says how to call.
 ghost use mathlib.Core.Path.{_≡_};
 ghost use Rattle.spelling.specs.WriteRead.{writeLines, readLines};
+ghost use Rattle.quiet.specs.QuietList.{writeQuiet};
 ghost use Rattle.line_calls.specs.LineCalls.{linesCall};
 ghost use Rattle.calls.specs.Calls.{listCall, commandCall, reportCall};
 use calls::RESULT_BYTES;
@@ -71,9 +72,9 @@ pub extern "C" fn qc_report(
 // A list as lines.
 #[no_mangle]
 pub extern "C" fn qc_write_lines(list: &[u8], buffer: &mut [u8], result: &mut [u8]) -> u32
-    ensures { λ r. ⌜ r ≡ linesCall writeLines (now (list .entry)) (now (buffer .entry)) (now (result .entry)) .number ⌝ }
-    ensures { λ _. ⌜ now (buffer .exit) ≡ linesCall writeLines (now (list .entry)) (now (buffer .entry)) (now (result .entry)) .buffer ⌝ }
-    ensures { λ _. ⌜ now (result .exit) ≡ linesCall writeLines (now (list .entry)) (now (buffer .entry)) (now (result .entry)) .result ⌝ }
+    ensures { λ r. ⌜ r ≡ linesCall (writeLines (now (list .entry))) (now (buffer .entry)) (now (result .entry)) .number ⌝ }
+    ensures { λ _. ⌜ now (buffer .exit) ≡ linesCall (writeLines (now (list .entry))) (now (buffer .entry)) (now (result .entry)) .buffer ⌝ }
+    ensures { λ _. ⌜ now (result .exit) ≡ linesCall (writeLines (now (list .entry))) (now (buffer .entry)) (now (result .entry)) .result ⌝ }
 {
     line_calls::write_call(list, buffer, result)
 }
@@ -81,9 +82,25 @@ pub extern "C" fn qc_write_lines(list: &[u8], buffer: &mut [u8], result: &mut [u
 // Lines as a list.
 #[no_mangle]
 pub extern "C" fn qc_read_lines(text: &[u8], buffer: &mut [u8], result: &mut [u8]) -> u32
-    ensures { λ r. ⌜ r ≡ linesCall readLines (now (text .entry)) (now (buffer .entry)) (now (result .entry)) .number ⌝ }
-    ensures { λ _. ⌜ now (buffer .exit) ≡ linesCall readLines (now (text .entry)) (now (buffer .entry)) (now (result .entry)) .buffer ⌝ }
-    ensures { λ _. ⌜ now (result .exit) ≡ linesCall readLines (now (text .entry)) (now (buffer .entry)) (now (result .entry)) .result ⌝ }
+    ensures { λ r. ⌜ r ≡ linesCall (readLines (now (text .entry))) (now (buffer .entry)) (now (result .entry)) .number ⌝ }
+    ensures { λ _. ⌜ now (buffer .exit) ≡ linesCall (readLines (now (text .entry))) (now (buffer .entry)) (now (result .entry)) .buffer ⌝ }
+    ensures { λ _. ⌜ now (result .exit) ≡ linesCall (readLines (now (text .entry))) (now (buffer .entry)) (now (result .entry)) .result ⌝ }
 {
     line_calls::read_call(text, buffer, result)
+}
+
+// The list of a quiet day.
+#[no_mangle]
+pub extern "C" fn qc_write_quiet(
+    n: usize,
+    commit: usize,
+    abort: usize,
+    buffer: &mut [u8],
+    result: &mut [u8],
+) -> u32
+    ensures { λ r. ⌜ r ≡ linesCall (writeQuiet n (record { 0 = commit }) (record { 0 = abort })) (now (buffer .entry)) (now (result .entry)) .number ⌝ }
+    ensures { λ _. ⌜ now (buffer .exit) ≡ linesCall (writeQuiet n (record { 0 = commit }) (record { 0 = abort })) (now (buffer .entry)) (now (result .entry)) .buffer ⌝ }
+    ensures { λ _. ⌜ now (result .exit) ≡ linesCall (writeQuiet n (record { 0 = commit }) (record { 0 = abort })) (now (buffer .entry)) (now (result .entry)) .result ⌝ }
+{
+    line_calls::quiet_call(n, commit, abort, buffer, result)
 }

@@ -1,13 +1,13 @@
 -- What is claimed of writing a list as lines and of reading lines as a list: each gives back what the other took.
 use Prim.Native.Nat.{ℕ, _<_, _≤_}
-use mathlib.Core.List.{List, [], _∷_, _++_}
+use mathlib.Core.List.{List, _++_}
 use mathlib.Core.Path.{_≡_}
 use lib.ListN.{length, getD, take, drop, replicate}
 use Rattle.world.specs.Sizes.{listBytes, textBytes}
 use Rattle.command.specs.declared.Command.{Command}
 use Rattle.header.specs.declared.Header.{Header}
 use Rattle.spelling.specs.Spelling.{headerLine, commandLine, headerBytes}
-use Rattle.spelling.specs.Ranges.{HeaderInRange, InRange}
+use Rattle.spelling.specs.Ranges.{HeaderInRange, InRange, AllInRange}
 use Rattle.spelling.specs.WriteRead.{Output, linesOf, writeLines, readLines}
 
 -- what a call has put out
@@ -56,11 +56,6 @@ AcceptedIsWriting = (s b : List ℕ) → readLines s b .answer .number ≡ 0 →
 abbrev pub WritingIsAccepted : Type 0
 WritingIsAccepted =
     (s b : List ℕ) (w : Writing s) → length (w .list) ≤ length b → readLines s b .answer .number ≡ 0
-
--- commands that both spellings can show
-pub data AllInRange : List Command → Type 0 where
-  none : AllInRange []
-  more : {c : Command} {commands : List Command} → InRange c → AllInRange commands → AllInRange (c ∷ commands)
 
 -- the first line that is not in its form: a text begins with no header's line, or with one and commands' lines up to a place where none stands
 pub data BadLine (s : List ℕ) : ℕ → Type 0 where

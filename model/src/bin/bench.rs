@@ -22,12 +22,14 @@ use std::hint::black_box;
 use std::time::{Duration, Instant};
 
 use model::calls::{Calls, Model, LINES_RESULT_BYTES, RESULT_BYTES};
-use model::generate::{duel, list_of, quiet_day, Rng};
+use model::command::list_of;
+use model::generate::{duel, Rng};
 use model::layout::{encode, WORLD_BYTES};
 use model::lines::list_spelled;
+use model::quiet;
 use model::row::STORE_BYTES;
 use model::sizes::HEADER_BYTES;
-use model::{play_list, Ask, Command, Sizes, World};
+use model::{play_list, Ask, Command, Replies, Sizes, World};
 
 use ffi::Library;
 
@@ -92,7 +94,7 @@ fn days() -> Vec<Workload> {
     vec![
         (
             "quiet day, 16 sites, again and again".into(),
-            quiet_day(16, 9, 9),
+            quiet::list([16, 9, 9], Replies::Last),
         ),
         ("duel with crashes, 16 sites".into(), duel(16, SEED, 32_768)),
         ("duel with crashes, 3 sites".into(), duel(3, SEED, 32_768)),

@@ -1,9 +1,8 @@
 //! Lists that are written and read as lines, not played: any operands go.
 
 use super::header::sizes;
-use super::list_of;
 use super::rng::Rng;
-use crate::command::Command;
+use crate::command::{list_of, Command};
 use crate::sizes::{Sizes, HEADER_BYTES};
 
 /// Bytes of the longest command.

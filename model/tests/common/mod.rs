@@ -4,8 +4,9 @@
 
 pub mod bad_lines;
 pub mod bad_lists;
+pub mod quiet;
 
-use model::generate::list_of;
+use model::command::list_of;
 use model::sizes::everyone;
 use model::{Command, GroupRecord, Kind, Log, Role, Row, Side, Site, Sizes, State, Vector, World};
 

@@ -192,11 +192,21 @@ impl<'a> Comparer<'a> {
 
     /// A list again, command by command, world and store handed on.
     pub fn walk(&mut self, list: &[u8]) -> Result<(), String> {
+        self.follow(list, |_, _| ()).map(|_| ())
+    }
+
+    /// The same with an eye on each accepted command and the world after it. Gives
+    /// the store and the world at the end.
+    pub fn follow(
+        &mut self,
+        list: &[u8],
+        mut look: impl FnMut(Ask, &[u8]),
+    ) -> Result<[Vec<u8>; 2], String> {
         let mut end = [self.pattern(STORE_BYTES), vec![0; WORLD_BYTES], vec![0; 8]];
         let mut held = [end[0].clone(), fresh(list), vec![0; 8]];
         let [store, world, result] = &mut end;
         let number = self.library.play_list(list, store, world, result);
-        let (mut place, mut stop) = (HEADER_BYTES, 0);
+        let (mut place, mut events, mut stop) = (HEADER_BYTES, 0, 0);
         while place < list.len() && stop == 0 {
             let ask = Ask::new(list, place);
             let agreed = self.command(&held[1], &held[0], ask, RESULT_BYTES)?;
@@ -206,14 +216,17 @@ impl<'a> Comparer<'a> {
                 return Err("the same call twice, two numbers\n".into());
             }
             if stop == 0 {
+                look(ask, world);
+                events += 1;
                 place = value(result);
             }
         }
-        let ended = value(&end[2][4..]);
-        if (stop, place) != (number, ended) || held[..2] != end[..2] {
+        let ended = (number, value(&end[2][..4]), value(&end[2][4..]));
+        if (stop, events, place) != ended || held[..2] != end[..2] {
             return Err(format!("list {} walked differs from played\n", hex(list)));
         }
-        Ok(())
+        let [store, world, _] = held;
+        Ok([store, world])
     }
 
     /// A report into a buffer filled with a pattern.

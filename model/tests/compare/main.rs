@@ -12,6 +12,7 @@ mod faults;
 #[path = "../../ffi/mod.rs"]
 mod ffi;
 mod lines;
+mod quiet;
 
 use std::collections::BTreeMap;
 use std::time::Instant;

@@ -1,6 +1,6 @@
 //! The form of the lines, and that each list has one spelling.
 
-use model::generate::list_of;
+use model::command::list_of;
 use model::{number, Command, Sizes};
 
 use crate::common::bad_lines::{DAY, FIRST};

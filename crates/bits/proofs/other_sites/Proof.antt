@@ -1,7 +1,7 @@
 use borrow.Author.Needs.{needs}
 use native.Mathlib.Omega.{arith}
 use lib.Pow.{pow-pos}
-use Rattle.bits.specs.Bits.{onlySite, otherSites}
+use Rattle.bits.specs.Bits.{onlySite, everySite, otherSites}
 use Rattle.bits.specs.laws.BitLaws.{one-of}
 use Rattle.bits.proofs.other_sites.Statement.{statement}
 use Rattle.bits.proofs.other_sites.Tie as tie
@@ -24,7 +24,7 @@ unfolding onlySite
 sub-result-2 c = omega (arith, one-of (c .before .before .args .n) (c .before .before .args .own) (omega arith), c .only-site2 .ensures, c .before .only-site .ensures)
 
 returns : tie.Need-returns
-unfolding onlySite otherSites
+unfolding onlySite everySite otherSites
 returns c = cc
 
 pub other-sites-spec : {M : Type 1} → statement M

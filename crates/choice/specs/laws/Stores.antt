@@ -1,7 +1,8 @@
 -- A list with a value stored at each of its first places, and a sum over places: what loops over a list leave.
-use Prim.Native.Nat.{ℕ, zero, suc, _+_, _≤_, _<_}
+use Prim.Native.Nat.{ℕ, zero, suc, _+_, _*_, _≤_, _<_}
 use mathlib.Core.List.{List}
 use mathlib.Core.Path.{_≡_, refl, ap, sym, _∙_}
+use native.Mathlib.Nat.{suc-mul}
 use native.Mathlib.Omega.{arith}
 use lib.ListN.{length, getD, set, length-set}
 use lib.Seq.{getD-set-same, getD-set-other}
@@ -47,3 +48,19 @@ pub sum-same : (f g : ℕ → ℕ) (k : ℕ) → ((i : ℕ) → i < k → f i �
 unfolding sumTo
 sum-same f g zero each = refl
 sum-same f g (suc k) each = omega (arith, sum-same f g k (λ i h. each i (omega arith)), each k (omega arith))
+
+-- two sums that differ at one place
+pub sum-but :
+    (f g : ℕ → ℕ) (i k : ℕ) → i < k → ((j : ℕ) → j < k → (j ≡ i → ⊥) → f j ≡ g j) → sumTo f k + g i ≡ sumTo g k + f i
+unfolding sumTo
+sum-but f g i zero inside there = absurd (omega arith)
+sum-but f g i (suc k) inside there =
+    by-equal i k
+    (λ e. omega (arith, sum-same f g k (λ j h. there j (omega arith) (λ q. omega arith)), ap f e, ap g e))
+    (λ e. omega (arith, sum-but f g i k (omega arith) (λ j h. there j (omega arith)), there k (omega arith) (λ q. e (sym q))))
+
+-- the sum of one number, k times
+pub sum-times : (x k : ℕ) → sumTo (λ _. x) k ≡ k * x
+unfolding sumTo
+sum-times x zero = omega arith
+sum-times x (suc k) = omega (arith, sum-times x k, suc-mul k x)

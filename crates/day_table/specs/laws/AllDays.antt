@@ -3,7 +3,7 @@ use mathlib.Core.Path.{refl}
 use Rattle.vector.specs.Codes.{level, isOutcome}
 use Rattle.vector.specs.Vector.{entryWeight, weigh, siteWeight, count, firstOutcome, lowestOutcome, validEntry, validEntries, validVector}
 use Rattle.merging.specs.Merging.{rises, mergeEntry, takeEntry, takeEntries, mergingInOrder, isOther, sitesBut, senderIfOther, senderFirst, merging}
-use Rattle.bits.specs.Bits.{hasBit, onlySite, otherSites}
+use Rattle.bits.specs.Bits.{hasBit, onlySite, everySite, otherSites}
 use Rattle.row.specs.Rows.{noRow, rowPlace, putHead, putRowAt, putRow, rowAt, getRow, codesKnown, rowKnown}
 use Rattle.code_bytes.specs.CodeBytes.{putCodes, codesFrom}
 use Rattle.site.specs.State.{stateBy, stateOf, codeOf, isTerminated, isActive, commitReached, abortReached}
@@ -27,5 +27,5 @@ use Rattle.day_table.specs.Claims.{played, stated, DaysHold}
 use Rattle.day_table.specs.Table.{M1, M2, M3, M4, M5, M6, M7, M8, M9, M10, T1, R1, R2, R3, days}
 
 pub all-days : DaysHold
-unfolding played stated START DELIVER TIMEOUT CRASH RECOVER three bits sent prepare vote joinAbort inGroup outcome sentBy rowsSent lines shownBy shown M1 M2 M3 M4 M5 M6 M7 M8 M9 M10 T1 R1 R2 R3 days level isOutcome rises mergeEntry takeEntry takeEntries mergingInOrder isOther sitesBut senderIfOther senderFirst merging entryWeight weigh siteWeight count firstOutcome lowestOutcome validEntry validEntries validVector hasBit onlySite otherSites noRow rowPlace putHead putCodes putRowAt putRow codesFrom rowAt getRow codesKnown rowKnown stateBy stateOf codeOf isTerminated isActive commitReached abortReached zeroVector blankSite withUp withCoordinator withPrepared withGroup withOutcome withCodes groupOf outcomeOf recordCode withOwn writePrepare joinGroup writeOutcome silent commandRow commanding replyRow replying start takeOver chooseGroup decideCommit decideAbort timeoutIn timeout hear adoptCode adopt voteIn joinCommitIn joinAbortIn after answer bringing afterHearing deliver keptVector crash restart recover found refused target delivery readTarget readDelivery readByte readCommand quorumsNumber sizesNumber downSites zeroWorld freshSites freshWorld siteOf isWilling withSite withRows withNews validGroup validSite validSites validWorld refuse putBack enterSilent enterRow withinNews enter startCall timeoutCall crashCall recoverCall deliverRow deliverCall perform performRead playCommand oneCommand callOf afterCall run headerOf headerSizes headerNumber headerWorld stopped afterAsk askAt playFrom refusedList playList text digitAt decimal named sizesLine upWord roleWord stateWord prepareLetter groupLetter outcomeLetter logLetters codeDigits siteLine siteLines lastLine reportText
+unfolding played stated START DELIVER TIMEOUT CRASH RECOVER three bits sent prepare vote joinAbort inGroup outcome sentBy rowsSent lines shownBy shown M1 M2 M3 M4 M5 M6 M7 M8 M9 M10 T1 R1 R2 R3 days level isOutcome rises mergeEntry takeEntry takeEntries mergingInOrder isOther sitesBut senderIfOther senderFirst merging entryWeight weigh siteWeight count firstOutcome lowestOutcome validEntry validEntries validVector hasBit onlySite everySite otherSites noRow rowPlace putHead putCodes putRowAt putRow codesFrom rowAt getRow codesKnown rowKnown stateBy stateOf codeOf isTerminated isActive commitReached abortReached zeroVector blankSite withUp withCoordinator withPrepared withGroup withOutcome withCodes groupOf outcomeOf recordCode withOwn writePrepare joinGroup writeOutcome silent commandRow commanding replyRow replying start takeOver chooseGroup decideCommit decideAbort timeoutIn timeout hear adoptCode adopt voteIn joinCommitIn joinAbortIn after answer bringing afterHearing deliver keptVector crash restart recover found refused target delivery readTarget readDelivery readByte readCommand quorumsNumber sizesNumber downSites zeroWorld freshSites freshWorld siteOf isWilling withSite withRows withNews validGroup validSite validSites validWorld refuse putBack enterSilent enterRow withinNews enter startCall timeoutCall crashCall recoverCall deliverRow deliverCall perform performRead playCommand oneCommand callOf afterCall run headerOf headerSizes headerNumber headerWorld stopped afterAsk askAt playFrom refusedList playList text digitAt decimal named sizesLine upWord roleWord stateWord prepareLetter groupLetter outcomeLetter logLetters codeDigits siteLine siteLines lastLine reportText
 all-days = refl

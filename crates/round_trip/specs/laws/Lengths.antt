@@ -13,12 +13,12 @@ use Rattle.command.specs.declared.Command.the-variants as Command·
 use Rattle.header.specs.declared.Header.{Header}
 use Rattle.header.specs.Headers.{headerSizes}
 use Rattle.spelling.specs.Spelling.{headerLine, commandLine, headerBytes, commandBytes}
-use Rattle.spelling.specs.Ranges.{HeaderInRange, InRange}
+use Rattle.spelling.specs.Ranges.{HeaderInRange, InRange, AllInRange}
 use Rattle.spelling.specs.Script.{spelledBy}
 use Rattle.spelling.specs.WriteRead.{linesOf, bytesOf, writeLines}
 use Rattle.spelling.specs.laws.LineBack.{line-fits}
 use Rattle.spelling.specs.laws.BytesBack.{list-length}
-use Rattle.round_trip.specs.Claims.{AllInRange, TextFits, longestList, LongestText}
+use Rattle.round_trip.specs.Claims.{TextFits, longestList, LongestText}
 use Rattle.round_trip.specs.laws.Outputs.{put-done}
 use Rattle.round_trip.specs.laws.Spells.{Spells, text-length, writes}
 use Rattle.round_trip.specs.laws.Accepted.{Accepted, written-from}

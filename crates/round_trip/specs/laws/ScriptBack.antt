@@ -15,11 +15,10 @@ use Rattle.command.specs.declared.Refusal.{Refusal}
 use Rattle.command.specs.declared.Reading.{Reading}
 use Rattle.command.specs.declared.Reading.the-variants as Reading·
 use Rattle.command.specs.Commands.{found}
-use Rattle.spelling.specs.Ranges.{InRange}
+use Rattle.spelling.specs.Ranges.{InRange, AllInRange}
 use Rattle.spelling.specs.Script.{Script, stop, first, scriptFrom, spelledBy}
 use Rattle.spelling.specs.laws.ScriptLaws.{none-left, step-refused, step-found}
 use Rattle.spelling.specs.laws.Spelt.{Spelt}
-use Rattle.round_trip.specs.Claims.{AllInRange}
 
 -- the script of commands that were all read
 abbrev pub whole : ℕ → List Command → Script

@@ -6,10 +6,10 @@ use Rattle.command.specs.declared.Command.{Command}
 use Rattle.command.specs.declared.Command.the-variants as Command·
 use Rattle.header.specs.declared.Header.{Header}
 use Rattle.spelling.specs.Spelling.{headerBytes, commandBytes}
-use Rattle.spelling.specs.Ranges.{HeaderInRange, InRange}
+use Rattle.spelling.specs.Ranges.{HeaderInRange, InRange, AllInRange}
 use Rattle.spelling.specs.Script.{spelledBy}
 use Rattle.spelling.specs.WriteRead.{bytesOf}
-use Rattle.round_trip.specs.Claims.{Bytes, AllInRange}
+use Rattle.round_trip.specs.Claims.{Bytes}
 
 -- bytes, one by one
 abbrev AllBytes : List ℕ → Type 0

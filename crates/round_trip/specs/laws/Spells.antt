@@ -13,13 +13,12 @@ use Rattle.header.specs.declared.Header.{Header}
 use Rattle.header.specs.Headers.{headerOf, headerSizes, headerNumber}
 use Rattle.spelling.specs.declared.HeaderReading.the-variants as HeaderReading·
 use Rattle.spelling.specs.Spelling.{headerLine, commandLine, headerBytes, commandBytes}
-use Rattle.spelling.specs.Ranges.{HeaderInRange}
+use Rattle.spelling.specs.Ranges.{HeaderInRange, AllInRange}
 use Rattle.spelling.specs.LineReading.{readLine, readHeaderLine}
 use Rattle.spelling.specs.Script.{spelledBy}
 use Rattle.spelling.specs.WriteRead.{putOut, listScript, textScript, linesOf, bytesOf, spelledNumber, writeLines, readList, readCommands, afterHeader, readLines}
 use Rattle.spelling.specs.laws.LineBack.{line-longer, line-reads, header-line-reads}
 use Rattle.spelling.specs.laws.BytesBack.{list-length, header-reads, command-longer, command-reads}
-use Rattle.round_trip.specs.Claims.{AllInRange}
 use Rattle.round_trip.specs.laws.ScriptBack.{whole, script-reads}
 
 -- a header and commands that both calls accept

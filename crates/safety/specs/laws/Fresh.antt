@@ -2,11 +2,15 @@
 use Prim.Native.Nat.{ℕ, zero, suc, _≤_, _<_}
 use mathlib.Core.Bool.{Bool, true, false}
 use mathlib.Core.List.{List, []}
-use mathlib.Core.Path.{_≡_, refl, _∙_}
+use mathlib.Core.Path.{_≡_, refl, ap, sym, subst, _∙_}
 use native.Mathlib.Omega.{arith}
-use lib.ListN.{length, getD, length-set, getD-replicate, length-replicate}
-use borrow.Author.Tests.{eq-eqb, ne-eqb}
-use Rattle.choice.specs.laws.ChoiceLaws.{set-ind}
+use lib.Dec.{ltb}
+use lib.ListN.{length, getD, set, length-set, getD-replicate, length-replicate}
+use lib.Seq.{getD-set-same, getD-set-other}
+use borrow.Author.Tests.{lt-ltb, le-ltb, ltb-true, ltb-false, eq-eqb, ne-eqb}
+use Rattle.choice.specs.Choice.{pick}
+use Rattle.choice.specs.laws.ChoiceLaws.{pick-ind}
+use Rattle.choice.specs.laws.Cases.{by-test, by-equal}
 use Rattle.vector.specs.Vector.{siteWeight}
 use Rattle.site.specs.declared.Site.{Site}
 use Rattle.site.specs.Fields.{blankSite}
@@ -53,13 +57,24 @@ unfolding freshSites downSites
 fresh-length zero = length-replicate 16 (blankSite false)
 fresh-length (suc k) = length-set (freshSites k) k (blankSite true) ∙ fresh-length k
 
+-- those below k are up
+pub fresh-at : (k j : ℕ) → k ≤ 16 → j < 16 → getD (freshSites k) j (blankSite false) ≡ pick (ltb j k) (blankSite true) (blankSite false)
+unfolding freshSites downSites
+fresh-at zero j few less = getD-replicate 16 j (blankSite false) (blankSite false) less ∙ sym (rw (le-ltb j 0 (omega arith)))
+fresh-at (suc k) j few less =
+    by-equal j k
+    (λ e. ap (λ x. getD (set (freshSites k) k (blankSite true)) x (blankSite false)) e
+    ∙ getD-set-same (freshSites k) k (blankSite true) (blankSite false) (omega (arith, fresh-length k))
+    ∙ sym (rw (lt-ltb j (suc k) (omega arith))))
+    (λ e. getD-set-other (freshSites k) k j (blankSite true) (blankSite false) e ∙ fresh-at k j (omega arith) less
+    ∙ by-test (ltb j k)
+    (λ t. rw (t, lt-ltb j (suc k) (omega (arith, ltb-true j k t))))
+    (λ t. rw (t, le-ltb j (suc k) (omega (arith, ltb-false j k t)))))
+
 pub fresh-blank : (P : Site → Type 0) → P (blankSite true) → P (blankSite false) → (k j : ℕ) → k ≤ 16 → j < 16 →
     P (getD (freshSites k) j (blankSite false))
-unfolding freshSites downSites
-fresh-blank P up down zero j few less = rw (getD-replicate 16 j (blankSite false) (blankSite false)) down
-fresh-blank P up down (suc k) j few less =
-    set-ind P (freshSites k) k j (blankSite true) (blankSite false) (omega (arith, fresh-length k)) (λ e. up)
-    (λ e. fresh-blank P up down k j (omega arith) less)
+fresh-blank P up down k j few less =
+    subst P (sym (fresh-at k j few less)) (pick-ind P (ltb j k) (blankSite true) (blankSite false) (λ _. up) (λ _. down))
 
 blank-true : (n own : ℕ) (up : Bool) → n ≤ 16 → TrueSite n own [] (blankSite up)
 unfolding blankSite writtenAt

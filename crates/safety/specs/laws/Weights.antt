@@ -1,7 +1,7 @@
 -- Weight: of the sites whose entry is a code, and of the sites with a record that leads to it.
 use Prim.Native.Nat.{ℕ, zero, suc, _+_, _≤_, _<_}
 use mathlib.Core.List.{List}
-use mathlib.Core.Path.{_≡_, refl}
+use mathlib.Core.Path.{_≡_}
 use native.Mathlib.Omega.{arith}
 use lib.Dec.{ltb, eqb}
 use lib.ListN.{getD}
@@ -11,7 +11,7 @@ use Rattle.vector.specs.Codes.{isOutcome}
 use Rattle.vector.specs.Vector.{entryWeight, weigh, siteWeight, firstOutcome, lowestOutcome}
 use Rattle.site.specs.Records.{Written}
 use Rattle.choice.specs.laws.Cases.{by-test, by-equal}
-use Rattle.choice.specs.laws.Stores.{sumTo}
+use Rattle.choice.specs.laws.Stores.{sumTo, sum-times}
 use Rattle.safety.specs.Claims.{writtenAt}
 use Rattle.safety.specs.laws.HistoryLaws.{Grown}
 
@@ -26,9 +26,8 @@ weighRecords weight (suc k) code H = weighRecords weight k code H + siteShare we
 
 -- the weight of all sites below n is a sum; where each weighs 1 it is n
 pub total-sites : (n : ℕ) → sumTo siteWeight n ≡ n
-unfolding sumTo siteWeight
-total-sites zero = refl
-total-sites (suc k) = omega (arith, total-sites k)
+unfolding siteWeight
+total-sites n = omega (arith, sum-times 1 n)
 
 module _ (weight : ℕ → ℕ) where
   share-written : (code k : ℕ) (H : List Written) → 1 ≤ writtenAt k code H → siteShare weight code k H ≡ weight k

@@ -1,15 +1,17 @@
 -- Laws of commands read one after the other: the bound on their number is never met, and what is left at a place decides the rest.
 use Prim.Native.Nat.{ℕ, zero, suc, _-_, _<_, _≤_}
+use mathlib.Core.List.{List, [], _∷_, _++_, append-assoc}
 use mathlib.Core.Path.{_≡_, refl, sym, ap, _∙_}
 use native.Mathlib.Omega.{arith}
 use lib.Dec.{ltb}
 use borrow.Author.Tests.{lt-ltb, le-ltb, ltb-true, ltb-false}
 use Rattle.choice.specs.laws.Cases.{by-test}
+use Rattle.command.specs.declared.Command.{Command}
 use Rattle.command.specs.declared.Parsed.{Parsed}
 use Rattle.command.specs.declared.Refusal.{Refusal}
 use Rattle.command.specs.declared.Reading.{Reading}
 use Rattle.command.specs.declared.Reading.the-variants as Reading·
-use Rattle.spelling.specs.Script.{Script, stop, first, readOn, scriptFrom}
+use Rattle.spelling.specs.Script.{Script, stop, first, readOn, scriptFrom, spelledBy}
 
 -- a reading goes forward
 abbrev pub Forward : (ℕ → Reading) → ℕ → Type 0
@@ -102,3 +104,11 @@ module _ (read : ℕ → Reading) (end : ℕ) where
     pub whole-rest : (at : ℕ) → scriptFrom end read end at ≡ rest read end at
     unfolding rest
     whole-rest at = enough forward end (end - at) at (omega arith) (omega arith)
+
+-- commands after other commands
+pub spelled-append : (spell : Command → List ℕ) (cs ds : List Command) → spelledBy spell (cs ++ ds) ≡ spelledBy spell cs ++ spelledBy spell ds
+unfolding spelledBy
+spelled-append spell [] ds = refl
+spelled-append spell (c ∷ cs) ds =
+    ap (λ s. spell c ++ s) (spelled-append spell cs ds)
+    ∙ sym (append-assoc (spell c) (spelledBy spell cs) (spelledBy spell ds))

@@ -1,11 +1,11 @@
 //! The worked days, and lengths of lists and buffers.
 
-use model::generate::quiet_day;
 use model::layout::WORLD_BYTES;
+use model::quiet;
 use model::row::STORE_BYTES;
 use model::sizes::{HEADER_BYTES, MAX_LIST};
 use model::world::MAX_ROWS;
-use model::Command;
+use model::{Command, Replies};
 
 use super::shared::{deliver, Done};
 use crate::common::{header, rows_of_site_0, three};
@@ -98,9 +98,7 @@ fn lengths() -> Vec<Numbered> {
 }
 
 pub fn lists(both: &mut Comparer) -> Done {
-    let quiet = (3..=16).map(|n| ("0 quiet day", 0, quiet_day(n, n - 1, n - 1)));
-    let others = headers().chain(lengths()).chain(quiet);
-    for (name, number, list) in others {
+    for (name, number, list) in headers().chain(lengths()) {
         let given = both.list(&list)?;
         both.clause(name, number, given)?;
     }
@@ -114,7 +112,7 @@ pub fn lists(both: &mut Comparer) -> Done {
 
 /// Wrong lengths of buffers, with good lists and bad ones.
 fn buffers(both: &mut Comparer) -> Done {
-    let day = quiet_day(5, 3, 3);
+    let day = quiet::list([5, 3, 3], Replies::Last);
     let long = [1; MAX_LIST + 1];
     for list in [&day, &long[..], &day[..3], &header(2, 2, 2, 0)] {
         wrong_buffers(both, list)?;

@@ -1,6 +1,6 @@
 //! The base world and what the calls on it need.
 
-use model::generate::list_of;
+use model::command::list_of;
 use model::row::STORE_BYTES;
 use model::sizes::everyone;
 use model::{play_list, Ask, Command, Numbers, Sizes, World};

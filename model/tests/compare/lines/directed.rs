@@ -1,7 +1,7 @@
 //! Calls on lines made for one clause each, with the number and the place that
 //! the papers give.
 
-use model::generate::list_of;
+use model::command::list_of;
 use model::{number, Command, Sizes};
 
 use super::comparer::{LineComparer, Way};

@@ -1,0 +1,3 @@
+pub mod Quiet
+pub mod QuietList
+pub mod laws
