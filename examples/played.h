@@ -1,4 +1,4 @@
-/* What play_day.c and play_lines.c share: a list is played, and its report printed. */
+/* What play_day.c, play_lines.c and weights.c share: a list is played, and its report printed. */
 #ifndef PLAYED_H
 #define PLAYED_H
 
@@ -28,13 +28,19 @@ static struct played play(const uint8_t *list, size_t length)
     return played;
 }
 
+/* Is there no world to report? 1 to 5 and 21 are for the list's length or header. */
+static int has_no_world(uint32_t number)
+{
+    return (number >= QC_LIST_LONG && number <= QC_BAD_WILLING) || number == QC_BAD_WEIGHT;
+}
+
 /* Prints the report of the world after a play, or the refusal alone where there is no world to report. Gives the exit status. */
 static int print_report(struct played played)
 {
     uint8_t text[QC_REPORT_BYTES], result[QC_RESULT_BYTES];
     uint32_t refused;
 
-    if (played.number >= QC_LIST_LONG && played.number <= QC_BAD_WILLING) {
+    if (has_no_world(played.number)) {
         printf("refused %u at %u\n", (unsigned)played.number, (unsigned)played.place);
         return REFUSED;
     }

@@ -13,11 +13,15 @@
  *   write (not const) overlaps no other buffer of that call. Nothing else is asked: any bytes, lengths and numbers may be handed in.
  * - Numbers in buffers have their low byte first. A world is QC_WORLD_BYTES bytes, laid out as docs/LAYOUT.md says; a C program need only keep
  *   it and hand it back.
- * - The answer is QC_ACCEPTED, or the number of the first check that failed. They are made in the order 16, 17, 1 to 15, 18; last of all, for a
- *   delivery, 17 again (see NEWS). The two calls between lists and lines have an order of their own (see LINES); qc_write_quiet has 17, 3, 4, 20.
+ * - The answer is QC_ACCEPTED, or the number of the first check that failed. They are made in the order 16, 17, 1 to 3, 2 again for a second-edition
+ *   header that is cut, 21, 4 to 15, 18; last of all, for a delivery, 17 again (see NEWS). The two calls between lists and lines have an order of
+ *   their own (see LINES); qc_write_quiet has 17, 3, 4, 20.
  *
- * A list is a header of QC_HEADER_BYTES bytes and then commands:
- *     header      n, the number of sites; C, the commit quorum; A, the abort quorum; the willing sites as 16 bits, bit i for site i
+ * A list is a header and then commands. There are two editions of the header; 130 as the first byte, which is no number of sites, begins the second:
+ *     header      first edition, QC_HEADER_BYTES bytes: n, the number of sites; C, the commit quorum; A, the abort quorum; the willing sites as
+ *                 16 bits, bit i for site i. Each site weighs 1
+ *       or        second edition, QC_SECOND_HEADER_BYTES(n) bytes: QC_SECOND_EDITION; n; C and A, 16 bits each; the willing sites, 16 bits; n weights,
+ *                 one byte each, from site 0 up (see WEIGHTS)
  *     1 START     no operand: site 0 begins
  *     2 DELIVER   row number (16 bits), site (1 byte): the row is delivered to that site; it may be again, or never
  *     3 TIMEOUT   site (1 byte): the site has waited long enough
@@ -42,8 +46,8 @@
  *                               prepared PREPARE, commit group JOIN COMMIT, abort group JOIN ABORT, terminated OUTCOME
  *              coordinator      moves on with whatever has arrived:
  *                prepared       joins the commit group if all n codes are 1 or any is 2, else the abort group; sends that JOIN
- *                commit group   if at least C codes are 2, writes commit and sends OUTCOME; else sends JOIN COMMIT again
- *                abort group    if at least A codes are 3, writes abort and sends OUTCOME; else sends JOIN ABORT again
+ *                commit group   if the sites with code 2 weigh at least C, writes commit and sends OUTCOME; else sends JOIN COMMIT again
+ *                abort group    if the sites with code 3 weigh at least A, writes abort and sends OUTCOME; else sends JOIN ABORT again
  *                terminated     sends OUTCOME
  *   DELIVER    first            for every other site, takes the row's code if its level is higher than that of the one held. Levels: 0; 1; 2, 3; 4, 5
  *              then             if not terminated and some code is 4 or 5, writes that outcome, the lowest site's
@@ -59,6 +63,15 @@
  *                               that it no longer has. So where site 0 restarts before START, START is 14.)
  *              any record       up; nothing else
  *              either way       the next TIMEOUT makes it coordinator, and it sends the command of its state
+ *
+ * WEIGHTS. A site weighs 1 to 255, and a quorum is a weight: sites that together weigh as much, or more, reach it. With W the weight of all n sites and
+ * h that of the heaviest, C and A are each at most W - h, and C + A is at least W + 1. (In a first-edition list W is n and h is 1.) So:
+ * - There are such C and A exactly where W is at least 2 h + 1: no site may weigh as much as all the others together. A list where one does is 4,
+ *   whatever its C and A are. Where none does, C = A = W - h will do, and so will C = W / 2 + 1 with A = W - W / 2, in whole numbers.
+ * - No site is a quorum by itself, for C and A are each at least h + 1; and none is needed for one, for the others weigh enough for either.
+ * - Weights count in quorums and nowhere else. A commit still takes every site, however light, to be willing and to prepare; what a heavy site says is
+ *   taken as any other's.
+ * A competition's weights never change.
  *
  * There is room for QC_ROWS rows, and none is ever given back. Each TIMEOUT of a site that is not active spends one, even where nothing has
  * arrived since the last; so 15 (QC_STORE_FULL) can end a competition undecided. A caller should let replies arrive before it lets a site time out.
@@ -78,7 +91,8 @@
  * Numbers are decimal, without leading noughts (but 0 is `0`): willing and the row to 65,535, all others to 255. Between words stands one blank, and no
  * other. Each line ends with a line feed, the last one too; there is no carriage return, no tab and no empty line. So a list has one text:
  * qc_write_lines and qc_read_lines undo each other, and a text that is spelt otherwise is refused. Commands are read here, and neither played nor held
- * to the header: a site or row that is not there may be written, and stops the list when it is played. The first byte of a list is always n.
+ * to the header: a site or row that is not there may be written, and stops the list when it is played. Only lists of the first edition have lines: the
+ * first byte is always taken as n, so 130 is 3.
  * Both calls check 17 first, which here is a result of another length and nothing else. Then qc_write_lines checks 1 to 7, and qc_read_lines 19
  * over the whole text, 1, 3 to 5; last of all 20.
  */
@@ -89,35 +103,41 @@
 #include <stdint.h>
 
 /* The major number goes up when a program may have to change, the minor one when something is added. Version 3: a world has its news (layout 2),
- * and the report's first line ends with it. 3.1 adds lists as lines, with 19 and 20. 3.2 adds the list of a quiet day. */
-#define QC_VERSION_MAJOR 3
-#define QC_VERSION_MINOR 2
-#define QC_LAYOUT 2 /* of a world's bytes: its first byte */
+ * and the report's first line ends with it. 3.1 adds lists as lines, with 19 and 20. 3.2 adds the list of a quiet day. Version 4: a world
+ * has weights (layout 3, 672 bytes), and a list may be of the second edition, with 21. */
+#define QC_VERSION_MAJOR 4
+#define QC_VERSION_MINOR 0
+#define QC_LAYOUT 3 /* of a world's bytes: its first byte */
 
-#define QC_SITES 16              /* site records of a world, and codes of a row */
+#define QC_SITES 16              /* site records of a world, its weights, and codes of a row */
 #define QC_ROWS 1024             /* rows: at most */
 #define QC_NEWS 491520           /* news: at most */
-#define QC_HEADER_BYTES 5        /* a list's header */
+#define QC_WEIGHT 255            /* a site's weight: at most; at least 1 */
+#define QC_HEADER_BYTES 5        /* a header of the first edition */
+#define QC_SECOND_EDITION 130    /* the first byte of a list of the second edition */
+#define QC_SECOND_HEADER_BYTES(n) (8 + (n)) /* a header of the second edition, for n sites; its weights begin at 8 */
 #define QC_LIST_BYTES 32768      /* a whole list: at most */
 #define QC_QUIET_BYTES 370       /* a quiet day's list: at most; a buffer of as many always has room for it */
 #define QC_TEXT_BYTES 196620     /* a list's text: at most; a buffer of as many always has room for it */
 #define QC_ROW_BYTES 20          /* a row */
-#define QC_WORLD_BYTES 656       /* a world: exactly */
+#define QC_WORLD_BYTES 672       /* a world: exactly */
 #define QC_STORE_BYTES 20480     /* a store of rows: at least */
 #define QC_REPORT_BYTES 1024     /* a report buffer: at least */
 #define QC_RESULT_BYTES 8        /* a result of the calls that play or report: exactly */
 #define QC_LINES_RESULT_BYTES 16 /* a result of the calls that write a list or its lines: exactly */
 
-/* Every answer: its name, number and meaning. 17 is a world or result of another length than it must have, a world's bytes outside the layout, a
- * world whose values do not fit together or whose news is over 491,520, for the report also an event count, place or number out of its range, and,
- * checked last, after 15, a delivery that would bring the news over 491,520. 19 is met by qc_read_lines alone, 20 by it,
- * qc_write_lines and qc_write_quiet. */
+/* Every answer: its name, number and meaning. 2 is a list of under 5 bytes, whatever the first is, and, checked after 3, a second-edition header that
+ * is cut. 4 is C or A over W - h, or C + A under W + 1 (see WEIGHTS). 17 is a world or result of another length than it must have, a world's bytes
+ * outside the layout, a world whose values do not fit together (its quorums and weights among them: a weight is 0 exactly from n up) or whose news is
+ * over 491,520, for the report also an event count, place or number out of its range, and, checked last, after 15, a delivery that would bring the news
+ * over 491,520. 19 is met by qc_read_lines alone, 20 by it, qc_write_lines and qc_write_quiet, 21 by qc_play_list alone. */
 #define QC_ANSWERS(answer)                                                                                      \
     answer(QC_ACCEPTED, 0, "accepted")                                                                          \
     answer(QC_LIST_LONG, 1, "the list is longer than 32,768 bytes")                                             \
     answer(QC_LIST_SHORT, 2, "the list is shorter than its header")                                             \
     answer(QC_BAD_SITES, 3, "the number of sites is not 3 to 16")                                               \
-    answer(QC_BAD_QUORUMS, 4, "a quorum is over n - 1, or both together are under n + 1")                       \
+    answer(QC_BAD_QUORUMS, 4,                                                                                   \
+           "a quorum is over all weights but the largest, or both together are not over all weights")           \
     answer(QC_BAD_WILLING, 5, "a willing bit at n or above")                                                    \
     answer(QC_NO_COMMAND, 6, "no command byte, or not 1 to 5")                                                  \
     answer(QC_CUT_SHORT, 7, "the command's operands are cut short")                                             \
@@ -133,7 +153,8 @@
     answer(QC_BAD_WORLD, 17, "the world, the result or a report number is wrong, or news would pass 491,520")   \
     answer(QC_REPORT_SHORT, 18, "the report buffer is shorter than 1,024 bytes")                                \
     answer(QC_BAD_LINE, 19, "a line is not in the form, or a number in it is past its range")                   \
-    answer(QC_ROOM_SHORT, 20, "the buffer is shorter than what is to be written to it")
+    answer(QC_ROOM_SHORT, 20, "the buffer is shorter than what is to be written to it")                         \
+    answer(QC_BAD_WEIGHT, 21, "a site's weight is 0")
 
 #define QC_ENTRY(name, number, text) name = number,
 enum qc_answer { QC_ANSWERS(QC_ENTRY) QC_ANSWER_COUNT };
@@ -174,10 +195,10 @@ extern "C" {
 
 /* Play a whole list, to its end or the first command that is refused. A list that is a header alone gives a fresh world.
  * store:  may hold anything; gets the rows sent from its beginning, and is left as it was beyond the last row.
- * world:  may hold anything; gets the world at the end, or before the refused command. For 16 and 1 to 5 it gets the world of zeros.
+ * world:  may hold anything; gets the world at the end, or before the refused command. For 16, 1 to 5 and 21 it gets the world of zeros.
  * result: bytes 0 to 3 get the count of accepted events, bytes 4 to 7 the place: the list's length at its end, the refused command's
- *         byte at a stop. For 16 and 1 to 5 both are 0.
- * Gives 0 if the list was played to its end; else 16, 17, 1 to 5 for its length or header, 6 to 15 for the command that stopped it. If world or
+ *         byte at a stop. For 16, 1 to 5 and 21 both are 0.
+ * Gives 0 if the list was played to its end; else 16, 17, 1 to 5 or 21 for its length or header, 6 to 15 for the command that stopped it. If world or
  * result has another length than it must, no buffer is touched. */
 uint32_t qc_play_list(const uint8_t *list, size_t list_length,
                       uint8_t *store, size_t store_length,
@@ -197,16 +218,16 @@ uint32_t qc_play_command(uint8_t *world, size_t world_length,
 
 /* Write the report of a world as text: a line of sizes and counts, a line for each site, and `end PLACE`, or `refused NUMBER at PLACE` where number
  * is not 0. Lines end with a newline byte; there is no zero byte at the end.
- * events, number, place: what qc_play_list gave; events and place at most 32,768, number at most 20.
+ * events, number, place: what qc_play_list gave; events and place at most 32,768, number at most 21.
  * buffer: may hold anything; gets the text from its beginning, and is left as it was beyond it.
- * result: bytes 0 to 7 get the text's length, 64 bits (at most 1,024).
- * Gives 0 if written; else 17, then 18, and no buffer is touched. After 16 and 1 to 5 of qc_play_list the world is that of zeros, and here 17. */
+ * result: bytes 0 to 7 get the text's length, 64 bits (at most 941).
+ * Gives 0 if written; else 17, then 18, and no buffer is touched. After 16, 1 to 5 and 21 of qc_play_list the world is that of zeros, and here 17. */
 uint32_t qc_report(const uint8_t *world, size_t world_length,
                    size_t events, uint32_t number, size_t place,
                    uint8_t *buffer, size_t buffer_length,
                    uint8_t *result, size_t result_length);
 
-/* Write a list as lines (see LINES above). There is no zero byte at the end.
+/* Write a list of the first edition as lines (see LINES above). There is no zero byte at the end.
  * list:   any bytes.
  * buffer: may hold anything; gets the text from its beginning, and is left as it was beyond it. QC_TEXT_BYTES bytes are always enough.
  * result: QC_LINES_RESULT_BYTES bytes. 0 to 7 get the text's length, 64 bits; 8 to 15 the place, 64 bits: the list's length. Where the call is refused
@@ -217,7 +238,7 @@ uint32_t qc_write_lines(const uint8_t *list, size_t list_length,
                         uint8_t *buffer, size_t buffer_length,
                         uint8_t *result, size_t result_length);
 
-/* Read lines (see LINES above) as a list.
+/* Read lines (see LINES above) as a list of the first edition.
  * text:   any bytes, of any length.
  * buffer: may hold anything; gets the list from its beginning, and is left as it was beyond it. QC_LIST_BYTES bytes are always enough.
  * result: QC_LINES_RESULT_BYTES bytes. 0 to 7 get the list's length, 64 bits; 8 to 15 the place, 64 bits: the text's length. Where the call is refused
@@ -230,6 +251,8 @@ uint32_t qc_read_lines(const uint8_t *text, size_t text_length,
 
 /* Write the list of a quiet day: all sites are willing, none goes down, and nothing is lost, late or repeated. START and two TIMEOUTs make site 0 send
  * its commands, rows 0, n and 2 n. Each is delivered to all other sites, from site 1 up; after that their replies, the n - 1 rows after it, to site 0.
+ * The list is of the first edition. Its commands, from QC_HEADER_BYTES on, depend on n alone: after a second-edition header in which all n sites are
+ * willing they are the quiet day of sites with those weights.
  * n, commit, abort: the sizes n, C and A.
  * buffer: may hold anything; gets the list from its beginning, and is left as it was beyond it. The list has 10 + 24 (n - 1) bytes; QC_QUIET_BYTES
  *         bytes are always enough.

@@ -86,6 +86,12 @@ static inline unsigned qc_willing(const uint8_t *world)
     return qc_number16(world + 6);
 }
 
+/* What a site weighs in a quorum; 0 from n up. In a first-edition list's world each of the n sites weighs 1. */
+static inline unsigned qc_weight(const uint8_t *world, unsigned site)
+{
+    return world[16 + site];
+}
+
 /* The rows sent so far. */
 static inline unsigned qc_row_count(const uint8_t *world)
 {
@@ -103,7 +109,7 @@ static inline uint32_t qc_news(const uint8_t *world)
 /* The first byte of a site's record. */
 static inline const uint8_t *qc_site(const uint8_t *world, unsigned site)
 {
-    return world + 16 + 40 * site;
+    return world + 32 + 40 * site;
 }
 
 /* 1 up, 0 down. */

@@ -79,6 +79,50 @@ if [ -w /dev/full ]; then
 fi
 echo "C: quiet_list writes days that commit everywhere; 0, 1 and 2 as its exit status"
 
+build weights examples/weights.c
+status 0 target/weights 51 50 40 25 15 10 10
+cmp "$work/got" - <<'WANT'
+sites 5 commit 51 abort 50 events 21 rows 12 news 30
+0 up coordinator committed PCc 44444
+1 up subordinate committed PCc 44111
+2 up subordinate committed P-c 42411
+3 up subordinate committed P-c 42141
+4 up subordinate committed P-c 42114
+end 90
+WANT
+in_group() { # MEMBERS C A WEIGHT ..: weights plays this day; all commit, and so many of them are needed for the quorum
+    local members=$1
+    shift
+    status 0 target/weights "$@"
+    [ "$(grep -c ' committed PCc ' "$work/got")" -eq "$members" ] || fail "weights: $* does not need $members sites"
+    [ "$(grep -c ' committed P-c ' "$work/got")" -eq $(($# - 2 - members)) ] || fail "weights: $* does not commit everywhere"
+}
+in_group 3 3 3 1 1 1 1 1
+in_group 3 51 50 10 25 40 15 10
+in_group 4 51 50 10 10 15 25 40
+in_group 2 256 256 255 255 1
+in_group 15 3825 256 255 255 255 255 255 255 255 255 255 255 255 255 255 255 255 255
+refuse() { # NUMBER TEXT C A WEIGHT ..: weights refuses this day, and says why
+    local number=$1 text=$2
+    shift 2
+    status 1 target/weights "$@"
+    [ "$(cat "$work/got")" = "refused $number at 0" ] || fail "weights: $* is not refused with $number"
+    [ "$(cat "$work/errors")" = "refused: $text" ] || fail "weights: of $* it does not say '$text'"
+}
+quorums='a quorum is over all weights but the largest, or both together are not over all weights'
+refuse 3 'the number of sites is not 3 to 16' 2 2 1 1
+refuse 21 "a site's weight is 0" 2 2 1 0 1
+refuse 4 "$quorums" 61 50 40 25 15 10 10
+refuse 4 "$quorums" 50 50 40 25 15 10 10
+refuse 4 "$quorums" 50 50 50 20 15 10 5
+status 2 target/weights
+status 2 target/weights 51 50
+status 2 target/weights 51 50 40 25 15 10 heavy
+status 2 target/weights 51 50 40 25 15 10 256
+status 2 target/weights 65536 50 40 25 15 10 10
+status 2 target/weights 9 9 1 1 1 1 1 1 1 1 1 1 1 1 1 1 1 1 1
+echo "C: weights commits with the sites that weigh enough, and tells why others are refused; 0, 1 and 2 as its exit status"
+
 build play_lines examples/play_lines.c
 status 0 target/play_lines examples/m3.txt
 cmp "$work/got" crates/player/stdout

@@ -18,7 +18,7 @@ for list in tests/vectors/*/*.bin; do
     expect "$list" < "${list%.bin}.out"
     count=$((count + 1))
 done
-[ "$count" -ge 71 ] || { echo "player: only $count vectors"; exit 1; }
+[ "$count" -ge 161 ] || { echo "player: only $count vectors"; exit 1; }
 
 : > "$work/list"
 echo 'refused 2 at 0' | expect 'an empty list'

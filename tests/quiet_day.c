@@ -1,6 +1,8 @@
 /* Every quiet day (document 02, request (v)) from C: for each number of sites and all legal quorums the library's own list is played whole, one
  * command at a time, and once more in another order, each reply right after the delivery that made it. What is counted on the way is held to the
- * request's numbers, and all three ways must leave the same bytes. The list's bytes and its refusals are in cases/quiet.c.
+ * request's numbers, and all three ways must leave the same bytes. Then the same commands after headers of the second edition (request (vi)): with
+ * weights of 1, which must leave the first edition's bytes, and with many other weightings, their quorums at the bounds and between.
+ * The list's bytes and its refusals are in cases/quiet.c.
  * Exits 0 if all is as it should be, 1 after the first difference.
  */
 #include <stdio.h>
@@ -11,10 +13,19 @@
 
 enum { FEWEST_SITES = 3, FILL = 0xee };
 
+/* Weightings that are drawn for each number of sites. */
+enum { DRAWN = 40 };
+
 /* What a day costs. */
 enum figure { BYTES, EVENTS, DELIVERIES, ROWS, RECORDS, NEWS, FIGURES };
 
 static const char *const names[FIGURES] = {"bytes of the list", "events", "deliveries", "rows", "log records", "news"};
+
+/* A competition's numbers; sites from n up weigh 0. */
+struct sizes {
+    unsigned n, commit_quorum, abort_quorum;
+    uint8_t weights[QC_SITES];
+};
 
 /* A competition, and what it has cost so far. */
 struct day {
@@ -22,9 +33,15 @@ struct day {
     unsigned figures[FIGURES];
 };
 
-static struct day whole, replies_last, replies_at_once;
-static uint8_t list[QC_QUIET_BYTES], result[QC_LINES_RESULT_BYTES];
-static char current[80];
+/* The day's list in either edition: the bytes of its header, and all of them. */
+static struct {
+    uint8_t bytes[QC_QUIET_BYTES - QC_HEADER_BYTES + QC_SECOND_HEADER_BYTES(QC_SITES)];
+    size_t header, length;
+} list;
+
+static struct day first_edition, whole, replies_last, replies_at_once;
+static uint8_t result[QC_LINES_RESULT_BYTES];
+static char current[160];
 static unsigned days;
 
 static void expect(const char *what, uint64_t got, uint64_t wanted)
@@ -43,12 +60,50 @@ static void expect_same(const char *what, const uint8_t *got, const uint8_t *wan
     expect(what, at, length);
 }
 
-/* The list as the library writes it; gives its length. */
-static size_t write_list(unsigned n, unsigned commit_quorum, unsigned abort_quorum)
+/* The day being played, for what is said of a difference. */
+static void name_day(const char *edition, const struct sizes *sizes)
 {
-    expect("number of the list", qc_write_quiet(n, commit_quorum, abort_quorum, list, sizeof list, result, sizeof result), QC_ACCEPTED);
-    expect("list longer than its buffer", qc_lines_length(result) > sizeof list, 0);
-    return (size_t)qc_lines_length(result);
+    unsigned site;
+    int length = sprintf(current, "%s edition, n %u, C %u, A %u, weights", edition, sizes->n, sizes->commit_quorum, sizes->abort_quorum);
+    for (site = 0; site < sizes->n; site++)
+        length += sprintf(current + length, " %u", (unsigned)sizes->weights[site]);
+}
+
+/* The list as the library writes it. */
+static void write_quiet(unsigned n, unsigned commit_quorum, unsigned abort_quorum)
+{
+    expect("number of the list", qc_write_quiet(n, commit_quorum, abort_quorum, list.bytes, QC_QUIET_BYTES, result, sizeof result), QC_ACCEPTED);
+    expect("list longer than its buffer", qc_lines_length(result) > QC_QUIET_BYTES, 0);
+    list.length = (size_t)qc_lines_length(result);
+}
+
+static void write_first_edition(const struct sizes *sizes)
+{
+    name_day("first", sizes);
+    write_quiet(sizes->n, sizes->commit_quorum, sizes->abort_quorum);
+    list.header = QC_HEADER_BYTES;
+}
+
+static void put_number16(uint8_t *bytes, unsigned number)
+{
+    bytes[0] = (uint8_t)number;
+    bytes[1] = (uint8_t)(number >> 8);
+}
+
+/* The library's commands, which depend on n alone, after a header of the second edition. */
+static void write_second_edition(const struct sizes *sizes)
+{
+    name_day("second", sizes);
+    write_quiet(sizes->n, 2, sizes->n - 1);
+    list.header = QC_SECOND_HEADER_BYTES(sizes->n);
+    memmove(list.bytes + list.header, list.bytes + QC_HEADER_BYTES, list.length - QC_HEADER_BYTES);
+    list.length += list.header - QC_HEADER_BYTES;
+    list.bytes[0] = QC_SECOND_EDITION;
+    list.bytes[1] = (uint8_t)sizes->n;
+    put_number16(list.bytes + 2, sizes->commit_quorum);
+    put_number16(list.bytes + 4, sizes->abort_quorum);
+    put_number16(list.bytes + 6, (1u << sizes->n) - 1);
+    memcpy(list.bytes + 8, sizes->weights, sizes->n);
 }
 
 /* The fresh world, from the list's header alone. */
@@ -56,9 +111,9 @@ static void begin(struct day *day)
 {
     memset(day, 0, sizeof *day);
     memset(day->store, FILL, sizeof day->store);
-    expect("number of the header", qc_play_list(list, QC_HEADER_BYTES, day->store, sizeof day->store, day->world, sizeof day->world, result,
+    expect("number of the header", qc_play_list(list.bytes, list.header, day->store, sizeof day->store, day->world, sizeof day->world, result,
                                                 QC_RESULT_BYTES), QC_ACCEPTED);
-    day->figures[BYTES] = QC_HEADER_BYTES;
+    day->figures[BYTES] = (unsigned)list.header;
 }
 
 /* The log records of a site. */
@@ -96,13 +151,13 @@ static size_t play(struct day *day, const uint8_t *commands, size_t length, size
 }
 
 /* The library's list, one command at a time. */
-static void play_each(struct day *day, size_t length)
+static void play_each(struct day *day)
 {
-    size_t at = QC_HEADER_BYTES;
+    size_t at = list.header;
     begin(day);
-    while (at < length)
-        at = play(day, list, length, at);
-    expect("end", at, length);
+    while (at < list.length)
+        at = play(day, list.bytes, list.length, at);
+    expect("end", at, list.length);
 }
 
 static void deliver(struct day *day, unsigned row, unsigned site)
@@ -132,13 +187,13 @@ static void play_at_once(struct day *day, unsigned n)
 }
 
 /* The library's list in one call; the other ways have counted its events. */
-static void play_whole(struct day *day, size_t length)
+static void play_whole(struct day *day)
 {
     begin(day);
-    expect("number of the whole list", qc_play_list(list, length, day->store, sizeof day->store, day->world, sizeof day->world, result,
+    expect("number of the whole list", qc_play_list(list.bytes, list.length, day->store, sizeof day->store, day->world, sizeof day->world, result,
                                                     QC_RESULT_BYTES), QC_ACCEPTED);
     expect("events of the whole list", qc_result_events(result), replies_last.figures[EVENTS]);
-    expect("end of the whole list", qc_result_place(result), length);
+    expect("end of the whole list", qc_result_place(result), list.length);
 }
 
 /* The request's numbers, and what follows for the list and the news. */
@@ -146,7 +201,7 @@ static void expect_cost(const struct day *day, unsigned n)
 {
     const unsigned others = n - 1;
     const unsigned due[FIGURES] = {
-        [BYTES] = 10 + 24 * others,
+        [BYTES] = (unsigned)list.header + 5 + 24 * others,
         [EVENTS] = 3 + 6 * others,
         [DELIVERIES] = 6 * others,
         [ROWS] = 3 * n,
@@ -159,12 +214,15 @@ static void expect_cost(const struct day *day, unsigned n)
 }
 
 /* The header says what was asked for, and that all are willing. */
-static void expect_sizes(const uint8_t *world, unsigned n, unsigned commit_quorum, unsigned abort_quorum)
+static void expect_sizes(const uint8_t *world, const struct sizes *sizes)
 {
-    expect("sites", qc_site_count(world), n);
-    expect("commit quorum", qc_commit_quorum(world), commit_quorum);
-    expect("abort quorum", qc_abort_quorum(world), abort_quorum);
-    expect("willing sites", qc_willing(world), (1u << n) - 1);
+    unsigned site;
+    expect("sites", qc_site_count(world), sizes->n);
+    expect("commit quorum", qc_commit_quorum(world), sizes->commit_quorum);
+    expect("abort quorum", qc_abort_quorum(world), sizes->abort_quorum);
+    expect("willing sites", qc_willing(world), (1u << sizes->n) - 1);
+    for (site = 0; site < QC_SITES; site++)
+        expect("weight", qc_weight(world, site), sizes->weights[site]);
 }
 
 /* Prepared, in the commit group, committed; no record at sites from n up. */
@@ -185,36 +243,51 @@ static void expect_same_end(const struct day *day, const struct day *other)
     expect_same("same bytes of the store", day->store, other->store, sizeof day->store);
 }
 
-/* One day, in all three ways. */
-static void play_day(unsigned n, unsigned commit_quorum, unsigned abort_quorum)
+/* The day of the list, in all three ways. */
+static void play_list(const struct sizes *sizes)
 {
-    size_t length;
-    sprintf(current, "n %u, C %u, A %u", n, commit_quorum, abort_quorum);
-    length = write_list(n, commit_quorum, abort_quorum);
-    play_each(&replies_last, length);
-    play_at_once(&replies_at_once, n);
-    play_whole(&whole, length);
-    expect_cost(&replies_last, n);
-    expect_cost(&replies_at_once, n);
-    expect_sizes(whole.world, n, commit_quorum, abort_quorum);
-    expect_logs(whole.world, n);
+    play_each(&replies_last);
+    play_at_once(&replies_at_once, sizes->n);
+    play_whole(&whole);
+    expect_cost(&replies_last, sizes->n);
+    expect_cost(&replies_at_once, sizes->n);
+    expect_sizes(whole.world, sizes);
+    expect_logs(whole.world, sizes->n);
     expect_same_end(&replies_last, &whole);
     expect_same_end(&replies_at_once, &whole);
     days++;
 }
 
-static void days_with_commit_quorum(unsigned n, unsigned commit_quorum)
+/* Each site below n weighs so much. */
+static void weigh_alike(struct sizes *sizes, unsigned weight)
 {
-    unsigned abort_quorum;
-    for (abort_quorum = n + 1 - commit_quorum; abort_quorum < n; abort_quorum++)
-        play_day(n, commit_quorum, abort_quorum);
+    memset(sizes->weights, 0, sizeof sizes->weights);
+    memset(sizes->weights, (int)weight, sizes->n);
 }
 
-static void days_of(unsigned n)
+/* One day of sites that weigh 1, in both editions: the same end. */
+static void play_both_editions(struct sizes *sizes)
 {
-    unsigned commit_quorum;
-    for (commit_quorum = 2; commit_quorum < n; commit_quorum++)
-        days_with_commit_quorum(n, commit_quorum);
+    weigh_alike(sizes, 1);
+    write_first_edition(sizes);
+    play_list(sizes);
+    first_edition = replies_last;
+    write_second_edition(sizes);
+    play_list(sizes);
+    expect_same_end(&first_edition, &whole);
+}
+
+static void days_with_commit_quorum(struct sizes *sizes)
+{
+    sizes->abort_quorum = sizes->n + 1 - sizes->commit_quorum;
+    for (; sizes->abort_quorum < sizes->n; sizes->abort_quorum++)
+        play_both_editions(sizes);
+}
+
+static void days_of(struct sizes *sizes)
+{
+    for (sizes->commit_quorum = 2; sizes->commit_quorum < sizes->n; sizes->commit_quorum++)
+        days_with_commit_quorum(sizes);
 }
 
 static void print_cost(const struct day *day, unsigned n)
@@ -226,18 +299,141 @@ static void print_cost(const struct day *day, unsigned n)
 /* n sites have (n - 1)(n - 2) / 2 legal pairs of quorums; from 3 to 16 that is 16 * 15 * 14 / 6. */
 static void all_days(void)
 {
-    unsigned n;
-    for (n = FEWEST_SITES; n <= QC_SITES; n++) {
-        days_of(n);
-        if (n == 3 || n == 8 || n == 16)
-            print_cost(&replies_last, n);
+    struct sizes sizes;
+    for (sizes.n = FEWEST_SITES; sizes.n <= QC_SITES; sizes.n++) {
+        days_of(&sizes);
+        if (sizes.n == 3 || sizes.n == 8 || sizes.n == 16)
+            print_cost(&first_edition, sizes.n);
     }
-    expect("days", days, 560);
+    expect("days", days, 2 * 560);
+    printf("quiet day: 560 days of 3 to 16 sites with all legal quorums, each in two orders and as a list, and in both editions\n");
+}
+
+static unsigned all_weight(const struct sizes *sizes)
+{
+    unsigned site, sum = 0;
+    for (site = 0; site < sizes->n; site++)
+        sum += sizes->weights[site];
+    return sum;
+}
+
+static unsigned heaviest(const struct sizes *sizes)
+{
+    unsigned site, most = 0;
+    for (site = 0; site < sizes->n; site++)
+        if (sizes->weights[site] > most)
+            most = sizes->weights[site];
+    return most;
+}
+
+static void play_quorums(struct sizes *sizes, unsigned commit_quorum, unsigned abort_quorum)
+{
+    sizes->commit_quorum = commit_quorum;
+    sizes->abort_quorum = abort_quorum;
+    write_second_edition(sizes);
+    play_list(sizes);
+}
+
+/* A number from least to most, the same ones in every run. */
+static unsigned draw(unsigned least, unsigned most)
+{
+    static uint64_t random = 6;
+    random = random * 6364136223846793005u + 1442695040888963407u;
+    return least + (unsigned)(random >> 33) % (most - least + 1);
+}
+
+/* With W and h as in the request: each the most, C the most and A the least, the other way round, both about half of W, and a pair that is drawn. */
+static void play_weights(struct sizes *sizes)
+{
+    const unsigned sum = all_weight(sizes), most = sum - heaviest(sizes), least = heaviest(sizes) + 1;
+    const unsigned drawn = draw(least, most);
+    play_quorums(sizes, most, most);
+    play_quorums(sizes, most, least);
+    play_quorums(sizes, least, most);
+    play_quorums(sizes, sum / 2 + 1, sum - sum / 2);
+    play_quorums(sizes, drawn, draw(sum + 1 - drawn, most));
+}
+
+/* Are there legal quorums? */
+static int is_legal(const struct sizes *sizes)
+{
+    return all_weight(sizes) > 2 * heaviest(sizes);
+}
+
+/* All weigh 255; from 2 up by one each, and down. */
+static void play_regular(struct sizes *sizes)
+{
+    unsigned site;
+    weigh_alike(sizes, QC_WEIGHT);
+    play_weights(sizes);
+    for (site = 0; site < sizes->n; site++)
+        sizes->weights[site] = (uint8_t)(site + 2);
+    play_weights(sizes);
+    for (site = 0; site < sizes->n; site++)
+        sizes->weights[site] = (uint8_t)(sizes->n + 1 - site);
+    play_weights(sizes);
+}
+
+/* One site weighs 1, the others 255; it weighs one less than the others together, which weigh 1 each; the same, and it weighs 255. */
+static void play_odd_one(struct sizes *sizes, unsigned one)
+{
+    const unsigned others = sizes->n - 1;
+    weigh_alike(sizes, QC_WEIGHT);
+    sizes->weights[one] = 1;
+    play_weights(sizes);
+    weigh_alike(sizes, 1);
+    sizes->weights[one] = (uint8_t)(others - 1);
+    play_weights(sizes);
+    weigh_alike(sizes, 256 / others);
+    sizes->weights[one == 0] = (uint8_t)(256 / others + 256 % others);
+    sizes->weights[one] = 255;
+    expect("weight of the others", all_weight(sizes) - 255, 256);
+    play_weights(sizes);
+}
+
+static void draw_weights(struct sizes *sizes)
+{
+    unsigned site;
+    weigh_alike(sizes, 0);
+    for (site = 0; site < sizes->n; site++)
+        sizes->weights[site] = (uint8_t)draw(1, QC_WEIGHT);
+}
+
+static void play_drawn(struct sizes *sizes)
+{
+    unsigned played = 0;
+    while (played < DRAWN) {
+        draw_weights(sizes);
+        if (is_legal(sizes)) {
+            play_weights(sizes);
+            played++;
+        }
+    }
+}
+
+static void weightings_of(struct sizes *sizes)
+{
+    unsigned one;
+    play_regular(sizes);
+    for (one = 0; one < sizes->n; one++)
+        play_odd_one(sizes, one);
+    play_drawn(sizes);
+}
+
+/* For n sites 3 regular weightings, 3 n with an odd one and those drawn, each with 5 pairs of quorums; 3 to 16 add up to 133. */
+static void all_weightings(void)
+{
+    struct sizes sizes;
+    days = 0;
+    for (sizes.n = FEWEST_SITES; sizes.n <= QC_SITES; sizes.n++)
+        weightings_of(&sizes);
+    expect("days with weights", days, 5 * (14 * (3 + DRAWN) + 3 * 133));
+    printf("quiet day: %u days of sites with different weights, at the bounds of their quorums and between, played the same ways\n", days);
 }
 
 int main(void)
 {
     all_days();
-    printf("quiet day: %u days of 3 to 16 sites with all legal quorums, each in two orders and as a list\n", days);
+    all_weightings();
     return 0;
 }

@@ -35,6 +35,8 @@ static void check_text(const char *where, const char *got, const char *wanted)
 
 /* Commands, for lists below. */
 #define HEADER(n, c, a, low, high) n, c, a, low, high
+#define NUMBER16(number) (uint8_t)((number) & 255), (uint8_t)((number) >> 8)
+#define SECOND(n, c, a, willing) QC_SECOND_EDITION, n, NUMBER16(c), NUMBER16(a), NUMBER16(willing)
 #define START QC_START
 #define DELIVER(row, site) QC_DELIVER, row, 0, site
 #define TIMEOUT(site) QC_TIMEOUT, site
@@ -92,6 +94,16 @@ static void check_row(const char *where, unsigned row, unsigned kind, unsigned s
 
 #define CHECK_ROW(row, kind, sender, destinations, codes) check_row(HERE, row, kind, sender, destinations, codes)
 
+/* The world's sixteen weights. */
+static void check_weights(const char *where, const uint8_t *weights)
+{
+    unsigned site;
+    for (site = 0; site < QC_SITES; site++)
+        check(where, qc_weight(world, site), weights[site]);
+}
+
+#define CHECK_WEIGHTS(weights) check_weights(HERE, weights)
+
 static const uint8_t m3[] = {HEADER(3, 2, 2, 7, 0), START,         DELIVER(0, 1), DELIVER(1, 0), TIMEOUT(0),
                              DELIVER(2, 2),         DELIVER(3, 0), TIMEOUT(0)};
 
@@ -99,6 +111,7 @@ static void fresh_worlds(void)
 {
     static const uint8_t m1[] = {HEADER(3, 2, 2, 7, 0)};
     static const uint8_t uneven[] = {HEADER(4, 2, 3, 9, 0)};
+    static const uint8_t ones[QC_SITES] = {1, 1, 1, 1};
     CHECK_PLAY(m1, QC_ACCEPTED, 0, 5);
     CHECK(world[0], QC_LAYOUT);
     CHECK(qc_row_count(world), 0);
@@ -110,6 +123,51 @@ static void fresh_worlds(void)
     CHECK(qc_commit_quorum(world), 2);
     CHECK(qc_abort_quorum(world), 3);
     CHECK(qc_willing(world), 9);
+    CHECK_WEIGHTS(ones);
+}
+
+/* Second-edition headers: the least and the most weights, and what a cut one leaves. */
+static void fresh_weights(void)
+{
+    static const uint8_t light[] = {SECOND(4, 60, 41, 9), 10, 20, 30, 40};
+    static const uint8_t heavy[] = {SECOND(16, 3825, 3824, 0xffff), 255, 255, 255, 255, 255, 255, 255, 255,
+                                    255, 255, 255, 255, 255, 255, 255, 255};
+    static const uint8_t light_weights[QC_SITES] = {10, 20, 30, 40}, none[QC_SITES] = {0};
+    CHECK_PLAY(light, QC_ACCEPTED, 0, QC_SECOND_HEADER_BYTES(4));
+    CHECK(world[0], QC_LAYOUT);
+    CHECK(qc_site_count(world), 4);
+    CHECK(qc_commit_quorum(world), 60);
+    CHECK(qc_abort_quorum(world), 41);
+    CHECK(qc_willing(world), 9);
+    CHECK(qc_row_count(world), 0);
+    CHECK(qc_news(world), 0);
+    CHECK_WEIGHTS(light_weights);
+    CHECK_TEXT(site_line(3), "3 up subordinate active --- 0000");
+    CHECK(qc_site_up(world, 4), 0);
+    CHECK_PLAY(heavy, QC_ACCEPTED, 0, QC_SECOND_HEADER_BYTES(QC_SITES));
+    CHECK(qc_commit_quorum(world), 3825);
+    CHECK(qc_abort_quorum(world), 3824);
+    CHECK_WEIGHTS(heavy + 8);
+    CHECK_TEXT(site_line(15), "15 up subordinate active --- 0000000000000000");
+    CHECK(play(heavy, sizeof heavy - 1), QC_LIST_SHORT);
+    CHECK_WEIGHTS(none);
+}
+
+/* Weights 2, 1, 3 and 2, C 5: sites 0 and 1 weigh 3, which is not enough; with site 2 they weigh 6. */
+static void a_weighed_commit(void)
+{
+    static const uint8_t list[] = {SECOND(4, 5, 5, 15), 2, 1, 3, 2,
+                                   START, DELIVER(0, 1), DELIVER(0, 2), DELIVER(0, 3), DELIVER(1, 0), DELIVER(2, 0), DELIVER(3, 0),
+                                   TIMEOUT(0), DELIVER(4, 1), DELIVER(5, 0), TIMEOUT(0), DELIVER(6, 2), DELIVER(7, 0), TIMEOUT(0)};
+    static const uint8_t weights[QC_SITES] = {2, 1, 3, 2};
+    CHECK_PLAY(list, QC_ACCEPTED, 14, 59);
+    CHECK_WEIGHTS(weights);
+    CHECK_TEXT(site_line(0), "0 up coordinator committed PCc 4221");
+    CHECK_TEXT(site_line(1), "1 up subordinate commit-group PC- 2211");
+    CHECK_TEXT(site_line(2), "2 up subordinate commit-group PC- 2221");
+    CHECK_TEXT(site_line(3), "3 up subordinate prepared P-- 1001");
+    CHECK_ROW(6, QC_JOIN_COMMIT, 0, 14, "2211");
+    CHECK_ROW(8, QC_OUTCOME, 0, 14, "4221");
 }
 
 /* M2, and M3 with its rows; site 0 joined knowing 3, 1, 0. */
@@ -202,7 +260,7 @@ static void restarts_of_a_coordinator(void)
 {
     static const uint8_t recover[] = {RECOVER(1)};
     static const uint8_t fresh[] = {HEADER(3, 2, 2, 7, 0)};
-    uint8_t *site = world + 16 + 40;
+    uint8_t *site = world + 32 + 40;
     unsigned record;
     for (record = 0; record < 2; record++) {
         CHECK(play(fresh, sizeof fresh), QC_ACCEPTED);
@@ -229,6 +287,8 @@ static void the_most_sites(void)
     CHECK_ROW(1, QC_VOTE, 15, 1, "1000000000000001");
 }
 
+static const uint8_t no_weight[] = {SECOND(3, 2, 2, 7), 1, 1, 0};
+
 /* M8 to M10, the cut command, headers and lengths. */
 static void refusals(void)
 {
@@ -248,6 +308,7 @@ static void refusals(void)
     CHECK_PLAY(apart, QC_BAD_QUORUMS, 0, 0);
     CHECK_PLAY(willing, QC_BAD_WILLING, 0, 0);
     CHECK_PLAY(long_list, QC_LIST_LONG, 0, 0);
+    CHECK_PLAY(no_weight, QC_BAD_WEIGHT, 0, 0);
     CHECK(play(m8, 4), QC_LIST_SHORT);
     CHECK(qc_site_count(world), 0);
 }
@@ -287,7 +348,7 @@ static void one_at_a_time(void)
     CHECK(qc_play_command(world, sizeof world, store, sizeof store, m3, sizeof m3, 26, result, sizeof result), QC_NO_COMMAND);
 }
 
-/* The report of M3; and 17 for the world that 16 and 1 to 5 leave. */
+/* The report of M3; and 17 for the world that 16, 1 to 5 and 21 leave. */
 static void reports(void)
 {
     static const char wanted[] = "sites 3 commit 2 abort 2 events 7 rows 5 news 5\n0 up coordinator aborted PAa 513\n"
@@ -299,6 +360,8 @@ static void reports(void)
     CHECK(qc_report(world, sizeof world, 7, 0, 26, text, sizeof text - 1, result, sizeof result), QC_REPORT_SHORT);
     CHECK(play(m3, 3), QC_LIST_SHORT);
     CHECK(qc_report(world, sizeof world, 0, 2, 0, text, sizeof text, result, sizeof result), QC_BAD_WORLD);
+    CHECK(play(no_weight, sizeof no_weight), QC_BAD_WEIGHT);
+    CHECK(qc_report(world, sizeof world, 0, 21, 0, text, sizeof text, result, sizeof result), QC_BAD_WORLD);
     CHECK(qc_play_list(m3, sizeof m3, store, sizeof store - 1, world, sizeof world, result, sizeof result), QC_STORE_SHORT);
     CHECK(qc_report(world, sizeof world, 0, 16, 0, text, sizeof text, result, sizeof result), QC_BAD_WORLD);
 }
@@ -306,13 +369,26 @@ static void reports(void)
 static void numbers(void)
 {
     static const uint8_t bytes[] = {1, 2, 3, 4, 5, 6, 7, 0xf8};
-    static const uint8_t head[] = {QC_LAYOUT, 3, 2, 0, 2, 0, 7, 0, 9, 0, 1, 2, 3, 0xf4, 0, 0};
+    static const uint8_t head[] = {QC_LAYOUT, 3,  0xf1, 14, 0xf2, 13, 7,  0x80, 9,  4,  1,  2,  3,  0xf4, 0,  0,
+                                   16,        17, 18,   19, 20,   21, 22, 23,   24, 25, 26, 27, 28, 29,   30, 31, 1};
     CHECK(qc_number16(bytes + 6), 0xf807);
     CHECK(qc_result_events(bytes), 0x04030201);
     CHECK(qc_result_place(bytes), 0xf8070605);
     CHECK(qc_result_next_place(bytes), 0xf807060504030201u);
     CHECK(qc_result_length(bytes), 0xf807060504030201u);
+    CHECK(qc_site_count(head), 3);
+    CHECK(qc_commit_quorum(head), 0x0ef1);
+    CHECK(qc_abort_quorum(head), 0x0df2);
+    CHECK(qc_willing(head), 0x8007);
+    CHECK(qc_row_count(head), 0x0409);
     CHECK(qc_news(head), 0xf4030201);
+    CHECK(qc_weight(head, 0), 16);
+    CHECK(qc_weight(head, 15), 31);
+    CHECK(qc_site_up(head, 0), 1);
+    CHECK(QC_WORLD_BYTES, 32 + 40 * QC_SITES);
+    CHECK(QC_SECOND_HEADER_BYTES(QC_SITES), 24);
+    CHECK(QC_SECOND_EDITION, 130);
+    CHECK(QC_WEIGHT, UINT8_MAX);
     CHECK(QC_NEWS, 15 * QC_LIST_BYTES);
 }
 
@@ -321,16 +397,17 @@ static void texts(void)
 {
     const char *none = qc_answer_text(QC_ANSWER_COUNT);
     uint32_t one, other;
-    CHECK(QC_ANSWER_COUNT, 21);
+    CHECK(QC_ANSWER_COUNT, 22);
     CHECK_TEXT(none, "no answer of this library");
     CHECK_TEXT(qc_answer_text(UINT32_MAX), none);
     CHECK_TEXT(qc_answer_text(QC_ACCEPTED), "accepted");
     CHECK_TEXT(qc_answer_text(12), "the site is down");
     CHECK_TEXT(qc_answer_text(19), "a line is not in the form, or a number in it is past its range");
     CHECK_TEXT(qc_answer_text(20), "the buffer is shorter than what is to be written to it");
-    for (one = 0; one < 21; one++) {
+    CHECK_TEXT(qc_answer_text(21), "a site's weight is 0");
+    for (one = 0; one < 22; one++) {
         CHECK((uint64_t)(strlen(qc_answer_text(one)) > 0), 1);
-        for (other = one + 1; other <= 21; other++)
+        for (other = one + 1; other <= 22; other++)
             CHECK((uint64_t)(strcmp(qc_answer_text(one), qc_answer_text(other)) != 0), 1);
     }
 }
@@ -338,8 +415,10 @@ static void texts(void)
 int main(void)
 {
     fresh_worlds();
+    fresh_weights();
     an_abort();
     a_commit();
+    a_weighed_commit();
     short_lists();
     restarts();
     restarts_of_a_coordinator();

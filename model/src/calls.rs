@@ -2,6 +2,7 @@
 //! docs/LAYOUT.md.
 
 use crate::command::Ask;
+use crate::header::Header;
 use crate::layout::{decode, encode, update, WORLD_BYTES};
 use crate::lines::{read_lines, write_lines, Output};
 use crate::number;
@@ -42,6 +43,18 @@ pub trait Calls {
 /// The rules behind the calls: what a player does with worlds. As they stand
 /// they are the model's.
 pub trait Rules {
+    /// The header of a list to be played.
+    fn header(&self, list: &[u8]) -> Result<Header, u8> {
+        Header::of_list(list)
+    }
+
+    /// The world that bytes say, if it is one.
+    fn world(&self, bytes: &[u8]) -> Result<World, u8> {
+        let world = decode(bytes)?;
+        world.check()?;
+        Ok(world)
+    }
+
     /// One command, in a world and store already found good.
     fn command(&self, world: &mut World, store: &mut [u8], ask: Ask) -> Result<usize, u8> {
         play_command(world, store, ask)
@@ -49,7 +62,8 @@ pub trait Rules {
 
     /// A whole list, each command by the rule above.
     fn list(&self, store: &mut [u8], list: &[u8]) -> Played {
-        play_list_by(store, list, |world, store, ask| {
+        let read = |list: &[u8]| self.header(list);
+        play_list_by(store, list, read, |world, store, ask| {
             self.command(world, store, ask)
         })
     }
@@ -92,9 +106,8 @@ impl<R: Rules> Calls for R {
     }
 
     fn play_command(&self, world: &mut [u8], store: &mut [u8], ask: Ask, result: &mut [u8]) -> u32 {
-        let given = check_store(store).and_then(|()| world_for(world, result));
+        let given = check_store(store).and_then(|()| world_for(self, world, result));
         let place = given.and_then(|mut next| {
-            next.check()?;
             let place = self.command(&mut next, store, ask)?;
             update(world, &next);
             Ok(place)
@@ -103,7 +116,8 @@ impl<R: Rules> Calls for R {
     }
 
     fn report(&self, world: &[u8], numbers: Numbers, buffer: &mut [u8], result: &mut [u8]) -> u32 {
-        let size = world_for(world, result).and_then(|world| self.text(&world, numbers, buffer));
+        let given = world_for(self, world, result);
+        let size = given.and_then(|world| self.text(&world, numbers, buffer));
         answer(size, result)
     }
 
@@ -121,11 +135,11 @@ impl<R: Rules> Calls for R {
 }
 
 /// The world handed in, where the result buffer is as it should be.
-fn world_for(world: &[u8], result: &[u8]) -> Result<World, u8> {
+fn world_for(rules: &impl Rules, world: &[u8], result: &[u8]) -> Result<World, u8> {
     if result.len() != RESULT_BYTES {
         return Err(number::WORLD);
     }
-    decode(world)
+    rules.world(world)
 }
 
 /// Writes what was found into the result, or gives the refusal.

@@ -1,5 +1,6 @@
 //! The commands of a list.
 
+use crate::header::Edition;
 use crate::number;
 use crate::sizes::Sizes;
 
@@ -80,8 +81,13 @@ impl Command {
     }
 }
 
-/// A list of commands.
+/// A list of commands, in the first edition.
 pub fn list_of(sizes: Sizes, commands: &[Command]) -> Vec<u8> {
+    list_in(Edition::First, sizes, commands)
+}
+
+/// A list of commands.
+pub fn list_in(edition: Edition, sizes: Sizes, commands: &[Command]) -> Vec<u8> {
     let commands = commands.iter().flat_map(|command| command.bytes());
-    sizes.header().into_iter().chain(commands).collect()
+    edition.header(&sizes).into_iter().chain(commands).collect()
 }

@@ -12,10 +12,11 @@ mod unplayed;
 pub use call::Call;
 pub use rng::Rng;
 
+use crate::header::{Edition, Header, HEADER_BYTES, SECOND};
 use crate::quiet::{self, Replies};
-use crate::sizes::{everyone, Sizes, HEADER_BYTES, MAX_LIST, MAX_SITES, MIN_SITES};
+use crate::sizes::{everyone, Sizes, MAX_LIST, MAX_SITES, MIN_SITES};
 use guide::Guide;
-use header::{quorums, sizes};
+use header::{bad_header, beginning, plain, quorums, weighted, Beginning};
 
 /// What a long list has at the least, in bytes.
 const LONG: usize = 4_000;
@@ -57,7 +58,8 @@ impl Generator {
     pub fn next_list(&mut self) -> Vec<u8> {
         match self.rng.below(100) {
             0..=54 => self.next_guided(),
-            55..=63 => self.next_random(),
+            55..=58 => self.next_random(),
+            59..=63 => self.next_bad_header(),
             64..=79 => self.next_damaged(),
             80..=92 => self.next_truncated(),
             93..=96 => self.next_quiet(),
@@ -68,8 +70,8 @@ impl Generator {
 
     /// A list whose commands are accepted, but for the last one at times.
     pub fn next_guided(&mut self) -> Vec<u8> {
-        let sizes = sizes(&mut self.rng);
-        let mut guide = Guide::new(sizes, self.length());
+        let beginning = beginning(&mut self.rng);
+        let mut guide = Guide::new(beginning, self.length());
         if self.least >= LONG && self.rng.chance(50) {
             guide.begin_with_quarrel(&mut self.rng);
         }
@@ -80,20 +82,32 @@ impl Generator {
         guide.list
     }
 
-    /// Bytes that follow no world: no header, a good header, or a good header
-    /// and small bytes.
+    /// Bytes that follow no world: no header, the second edition's first byte, a
+    /// good header, or a good header and small bytes.
     pub fn next_random(&mut self) -> Vec<u8> {
         let rng = &mut self.rng;
         let most = rng.choose(&[8, 40, 400]);
         let size = rng.below(most);
-        match rng.below(3) {
+        let head = match rng.below(6) {
+            0 => Vec::new(),
+            1 => vec![SECOND, rng.between(MIN_SITES, MAX_SITES) as u8],
+            _ => good_header(rng),
+        };
+        let bytes = match rng.below(2) {
             0 => rng.bytes(size),
-            1 => [sizes(rng).header().to_vec(), rng.bytes(size)].concat(),
-            _ => {
-                let small = (0..size).map(|_| rng.below(6) as u8).collect();
-                [sizes(rng).header().to_vec(), small].concat()
-            }
+            _ => (0..size).map(|_| rng.below(6) as u8).collect(),
+        };
+        [head, bytes].concat()
+    }
+
+    /// A header of the second edition that is refused, with commands after it at
+    /// times.
+    pub fn next_bad_header(&mut self) -> Vec<u8> {
+        let mut list = bad_header(&mut self.rng);
+        if self.rng.chance(50) {
+            list.extend([1, 3, 0, 3, 0]);
         }
+        list
     }
 
     /// A guided list with one byte changed, in the header one time in four.
@@ -114,28 +128,34 @@ impl Generator {
     /// A place in a list, so many times in a hundred in its header.
     fn place_in(&mut self, list: &[u8], percent: usize) -> usize {
         let in_header = self.rng.chance(percent);
-        self.rng
-            .below(if in_header { HEADER_BYTES } else { list.len() })
+        let end = Header::of_list(list).map_or(HEADER_BYTES, |header| header.end);
+        self.rng.below(if in_header { end } else { list.len() })
     }
 
     /// A quiet day of any sizes.
     pub fn next_quiet(&mut self) -> Vec<u8> {
-        let sizes = sizes(&mut self.rng);
+        let sizes = plain(&mut self.rng);
         let asked = [sizes.n, sizes.commit_quorum, sizes.abort_quorum];
         quiet::list(asked, Replies::Last)
     }
 
-    /// A duel of any size.
+    /// A duel of any size and edition.
     pub fn next_duel(&mut self) -> Vec<u8> {
-        let n = self.rng.between(MIN_SITES, MAX_SITES);
         let bytes = self.rng.between(self.least, self.most);
+        self.duel_of(bytes)
+    }
+
+    fn duel_of(&mut self, bytes: usize) -> Vec<u8> {
+        if self.rng.chance(50) {
+            return weighted_duel(weighted(&mut self.rng), self.rng.draw(), bytes);
+        }
+        let n = self.rng.between(MIN_SITES, MAX_SITES);
         duel(n as u8, self.rng.draw(), bytes)
     }
 
     /// A duel with more bytes after it than a list can have.
     pub fn next_too_long(&mut self) -> Vec<u8> {
-        let n = self.rng.between(MIN_SITES, MAX_SITES);
-        let mut list = duel(n as u8, self.rng.draw(), self.most.min(2_000));
+        let mut list = self.duel_of(self.most.min(2_000));
         let size = MAX_LIST + self.rng.between(1, 300);
         list.resize(size, 4);
         list
@@ -181,9 +201,28 @@ impl Generator {
 pub fn duel(n: u8, seed: u64, bytes: usize) -> Vec<u8> {
     let mut rng = Rng::new(seed);
     let n = usize::from(n).clamp(MIN_SITES, MAX_SITES);
-    let (c, a) = quorums(&mut rng, n);
+    let (c, a) = quorums(&mut rng, &Sizes::new(n, 0, 0, 0));
     let sizes = Sizes::new(n, c, a, everyone(n));
-    let mut guide = Guide::new(sizes, bytes.min(MAX_LIST));
-    guide.quarrel(&mut rng);
+    quarrel(&mut rng, (Edition::First, sizes), bytes)
+}
+
+/// A duel in the second edition, of these sizes but that all sites are willing. Its
+/// header has 8 + n bytes, so for an even n it has an odd length, one byte less than
+/// wanted at the most.
+pub fn weighted_duel(sizes: Sizes, seed: u64, bytes: usize) -> Vec<u8> {
+    let willing = everyone(sizes.n);
+    let beginning = (Edition::Second, Sizes { willing, ..sizes });
+    quarrel(&mut Rng::new(seed), beginning, bytes)
+}
+
+fn quarrel(rng: &mut Rng, beginning: Beginning, bytes: usize) -> Vec<u8> {
+    let mut guide = Guide::new(beginning, bytes.min(MAX_LIST));
+    guide.quarrel(rng);
     guide.list
+}
+
+/// A header that is accepted.
+fn good_header(rng: &mut Rng) -> Vec<u8> {
+    let (edition, sizes) = beginning(rng);
+    edition.header(&sizes)
 }

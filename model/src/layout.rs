@@ -1,25 +1,29 @@
 //! The world as bytes, the way it crosses to C: docs/LAYOUT.md.
 //!
-//! 656 bytes: a head of 16, then 40 for each of the sixteen sites. Numbers of
-//! more than one byte have the low byte first.
+//! 672 bytes: a head of 16, a weight for each of the sixteen sites, then 40 bytes
+//! for each of them. Numbers of more than one byte have the low byte first.
 
 use std::ops::Range;
 
 use crate::number;
 use crate::site::{GroupRecord, Log, Role, Site};
-use crate::sizes::Sizes;
+use crate::sizes::{ones, Sizes};
 use crate::state::Side;
 use crate::vector::Vector;
 use crate::world::World;
 
 /// Bytes of a world.
-pub const WORLD_BYTES: usize = 656;
-/// Bytes before the first site.
+pub const WORLD_BYTES: usize = 672;
+/// Bytes before the weights.
 pub const HEAD_BYTES: usize = 16;
+/// The weights, a byte each.
+pub const WEIGHTS: Range<usize> = 16..32;
+/// Where the first site is.
+pub const SITES_AT: usize = 32;
 /// Bytes of a site.
 pub const SITE_BYTES: usize = 40;
 /// The layout's own number, the first byte.
-pub const LAYOUT: u8 = 2;
+pub const LAYOUT: u8 = 3;
 /// The news in the head.
 pub const NEWS: Range<usize> = 10..14;
 /// A site's codes, seen from the site's first byte.
@@ -46,7 +50,8 @@ pub fn update(bytes: &mut [u8], world: &World) {
     bytes[6..8].copy_from_slice(&sizes.willing.to_le_bytes());
     bytes[8..10].copy_from_slice(&word(world.row_count));
     bytes[NEWS].copy_from_slice(&double_word(world.news));
-    let places = bytes[HEAD_BYTES..].chunks_exact_mut(SITE_BYTES);
+    bytes[WEIGHTS].copy_from_slice(&sizes.weights);
+    let places = bytes[SITES_AT..].chunks_exact_mut(SITE_BYTES);
     for (place, site) in places.zip(world.members()) {
         encode_site(place, site);
     }
@@ -70,11 +75,14 @@ pub fn decode(bytes: &[u8]) -> Result<World, u8> {
     if !is_inside(bytes) {
         return Err(number::WORLD);
     }
+    let mut weights = ones(0);
+    weights.copy_from_slice(&bytes[WEIGHTS]);
     let sizes = Sizes {
         n: bytes[1].into(),
         commit_quorum: word_at(bytes, 2).into(),
         abort_quorum: word_at(bytes, 4).into(),
         willing: word_at(bytes, 6),
+        weights,
     };
     let mut world = World {
         sizes,
@@ -131,7 +139,7 @@ fn is_site_inside(bytes: &[u8]) -> bool {
 
 /// The sixteen site records.
 fn sites(bytes: &[u8]) -> impl Iterator<Item = &[u8]> {
-    bytes[HEAD_BYTES..].chunks_exact(SITE_BYTES)
+    bytes[SITES_AT..].chunks_exact(SITE_BYTES)
 }
 
 fn word(number: usize) -> [u8; 2] {

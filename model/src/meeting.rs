@@ -1,4 +1,5 @@
-//! What calls on a world meet of its news, of the limit and of a row's sender.
+//! What calls on a world meet of its news, of the limit, of a row's sender and of
+//! the weights.
 
 use crate::command::{Ask, Command};
 use crate::generate::Call;
@@ -6,6 +7,9 @@ use crate::layout::decode;
 use crate::number;
 use crate::play::play_command;
 use crate::row::Row;
+use crate::scale::Scale;
+use crate::sizes::Sizes;
+use crate::state::Side;
 use crate::vector::{level, outcome_of, Vector};
 use crate::world::{World, MAX_NEWS};
 
@@ -46,10 +50,37 @@ pub enum Meeting {
     /// A lower site shows the other outcome than the sender does, and the
     /// receiver has none yet.
     LowestDecides,
+    /// A site below n weighs nothing, and nothing else is wrong.
+    ZeroWeight,
+    /// A site from n up weighs something, and nothing else is wrong.
+    FarWeight,
+    /// A commit quorum that cannot be had without the heaviest site, and nothing
+    /// else is wrong.
+    LargeCommit,
+    /// Such an abort quorum.
+    LargeAbort,
+    /// The quorums do not meet, and nothing else is wrong.
+    NotMeeting,
+    /// A coordinator has a commit quorum by weight and not by how many entries
+    /// there are.
+    CommitByWeight,
+    /// The same with an abort quorum.
+    AbortByWeight,
+    /// A coordinator has the commit quorum's share of the sites, but they weigh too
+    /// little.
+    CommitTooLight,
+    /// The same with the abort quorum.
+    AbortTooLight,
+    /// A coordinator's group weighs as much as its quorum.
+    JustEnough,
+    /// A coordinator's group weighs one less.
+    OneShort,
+    /// An accepted call finds a quorum above 255.
+    LargeQuorum,
 }
 
 impl Meeting {
-    pub const ALL: [Meeting; 16] = [
+    pub const ALL: [Meeting; 28] = [
         Meeting::OverLimit,
         Meeting::WouldPass,
         Meeting::NoRoomFirst,
@@ -66,6 +97,18 @@ impl Meeting {
         Meeting::SenderAndOthers,
         Meeting::OthersAlone,
         Meeting::LowestDecides,
+        Meeting::ZeroWeight,
+        Meeting::FarWeight,
+        Meeting::LargeCommit,
+        Meeting::LargeAbort,
+        Meeting::NotMeeting,
+        Meeting::CommitByWeight,
+        Meeting::AbortByWeight,
+        Meeting::CommitTooLight,
+        Meeting::AbortTooLight,
+        Meeting::JustEnough,
+        Meeting::OneShort,
+        Meeting::LargeQuorum,
     ];
 }
 
@@ -77,12 +120,45 @@ pub fn is_over_limit(world: &[u8]) -> bool {
     })
 }
 
+/// What is wrong with the weights of a world, or with the quorums for them, if
+/// nothing else is.
+pub fn misweighed(world: &[u8]) -> Vec<(Meeting, bool)> {
+    let Ok(world) = decode(world) else {
+        return Vec::new();
+    };
+    let sizes = world.sizes;
+    let most = sizes.weight() - sizes.heaviest();
+    let (commit, abort) = (sizes.commit_quorum, sizes.abort_quorum);
+    match sizes.check() {
+        _ if !is_good_unweighed(&world) => Vec::new(),
+        Err(number::WEIGHT) => vec![(Meeting::ZeroWeight, true)],
+        Err(number::QUORUMS) => vec![
+            (Meeting::LargeCommit, commit > most && abort <= most),
+            (Meeting::LargeAbort, abort > most && commit <= most),
+            (Meeting::NotMeeting, commit.max(abort) <= most),
+        ],
+        checked => vec![(Meeting::FarWeight, checked.is_ok() && !sizes.make_world())],
+    }
+}
+
+/// Would this world pass if each site weighed 1 and the quorums fitted?
+fn is_good_unweighed(world: &World) -> bool {
+    let (n, willing) = (world.sizes.n, world.sizes.willing);
+    let most = n.saturating_sub(1);
+    let mut plain = *world;
+    plain.sizes = Sizes::new(n, most, most, willing);
+    plain.check().is_ok()
+}
+
 /// All that a call meets that is given this number.
 pub fn meetings(call: &Call, number: u32) -> Vec<Meeting> {
     let is_over = is_over_limit(&call.world);
     let found = match number as u8 {
         number::WORLD if is_over => vec![(Meeting::OverLimit, true)],
-        number::WORLD => vec![(Meeting::WouldPass, would_pass(call))],
+        number::WORLD => {
+            let news = (Meeting::WouldPass, would_pass(call));
+            [vec![news], misweighed(&call.world)].concat()
+        }
         number::FULL => vec![(Meeting::NoRoomFirst, would_pass(call))],
         number::NONE => at_accepted(call),
         _ => Vec::new(),
@@ -109,10 +185,37 @@ fn at_accepted(call: &Call) -> Vec<(Meeting, bool)> {
     let Some(world) = good_world(call) else {
         return Vec::new();
     };
-    match Delivery::of(&world, &call.store, call.ask()) {
+    let told = match Delivery::of(&world, &call.store, call.ask()) {
         Some(delivery) => delivery.met(call),
         None => vec![(Meeting::OtherAtLimit, world.news == MAX_NEWS)],
-    }
+    };
+    [told, met_of_weights(&world, call.ask())].concat()
+}
+
+/// What an accepted call may have met of the weights.
+fn met_of_weights(world: &World, ask: Ask) -> Vec<(Meeting, bool)> {
+    let quorums = [world.sizes.commit_quorum, world.sizes.abort_quorum];
+    let large = (
+        Meeting::LargeQuorum,
+        quorums.iter().any(|&quorum| quorum > 255),
+    );
+    let Ok((Command::Timeout(me), _)) = Command::read(ask) else {
+        return vec![large];
+    };
+    let Some(scale) = Scale::of(&world.sizes, &world.sites[me]) else {
+        return vec![large];
+    };
+    let [alone, light] = match scale.side {
+        Side::Commit => [Meeting::CommitByWeight, Meeting::CommitTooLight],
+        Side::Abort => [Meeting::AbortByWeight, Meeting::AbortTooLight],
+    };
+    vec![
+        large,
+        (alone, scale.is_by_weight_alone()),
+        (light, scale.is_too_light()),
+        (Meeting::JustEnough, scale.is_just_enough()),
+        (Meeting::OneShort, scale.is_one_short()),
+    ]
 }
 
 /// A row in a good world, and the site that it is for.

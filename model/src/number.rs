@@ -4,7 +4,7 @@
 pub const NONE: u8 = 0;
 /// List over 32,768 bytes.
 pub const LIST_LONG: u8 = 1;
-/// List under 5 bytes.
+/// List under 5 bytes, or a header of the second edition that is cut.
 pub const LIST_SHORT: u8 = 2;
 /// Number of sites out of range.
 pub const SITES: u8 = 3;
@@ -43,5 +43,12 @@ pub const BUFFER: u8 = 18;
 pub const LINE: u8 = 19;
 /// Room for the output too short.
 pub const ROOM: u8 = 20;
+/// A site that weighs nothing.
+pub const WEIGHT: u8 = 21;
 /// The highest number there is.
-pub const LAST: u8 = 20;
+pub const LAST: u8 = 21;
+
+/// Is this a number of a list's length or header?
+pub fn is_of_header(number: u8) -> bool {
+    matches!(number, LIST_LONG..=WILLING | WEIGHT)
+}

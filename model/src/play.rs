@@ -1,10 +1,10 @@
 //! Playing: one command, and a whole list.
 
 use crate::command::{Ask, Command};
+use crate::header::Header;
 use crate::number;
 use crate::report::Numbers;
 use crate::row::{Row, STORE_BYTES};
-use crate::sizes::{Sizes, HEADER_BYTES};
 use crate::state::State;
 use crate::step::Actor;
 use crate::world::{World, MAX_NEWS, MAX_ROWS};
@@ -42,18 +42,19 @@ pub fn one_command(world: &mut World, store: &mut [u8], ask: Ask) -> Result<usiz
 
 /// Plays a whole list from its header's fresh world.
 pub fn play_list(store: &mut [u8], list: &[u8]) -> Played {
-    play_list_by(store, list, play_command)
+    play_list_by(store, list, Header::of_list, play_command)
 }
 
-/// Plays a whole list with another way of playing a command, which gets worlds
-/// and stores already found good.
+/// Plays a whole list with another way of reading its header, or of playing a
+/// command, which gets worlds and stores already found good.
 pub fn play_list_by(
     store: &mut [u8],
     list: &[u8],
+    read: impl FnOnce(&[u8]) -> Result<Header, u8>,
     play: impl FnMut(&mut World, &mut [u8], Ask) -> Result<usize, u8>,
 ) -> Played {
-    match open_list(store, list) {
-        Ok(world) => play_commands(world, store, list, play),
+    match check_store(store).and_then(|()| read(list)) {
+        Ok(header) => play_commands(header, store, list, play),
         Err(number) => Played {
             number,
             world: World::ZEROS,
@@ -71,20 +72,16 @@ pub fn check_store(store: &[u8]) -> Result<(), u8> {
     Ok(())
 }
 
-/// The checks on store, length and header, and the header's world.
-fn open_list(store: &[u8], list: &[u8]) -> Result<World, u8> {
-    check_store(store)?;
-    Sizes::of_list(list).map(World::fresh)
-}
-
-/// Plays command after command, to the list's end or a refusal.
+/// Plays command after command from the header's fresh world, to the list's end
+/// or a refusal.
 fn play_commands(
-    mut world: World,
+    header: Header,
     store: &mut [u8],
     list: &[u8],
     mut play: impl FnMut(&mut World, &mut [u8], Ask) -> Result<usize, u8>,
 ) -> Played {
-    let mut at = HEADER_BYTES;
+    let mut world = World::fresh(header.sizes);
+    let mut at = header.end;
     let mut events = 0;
     let mut number = number::NONE;
     while at < list.len() {

@@ -11,7 +11,7 @@ pub fn printed(list: &[u8]) -> String {
     let played = play_list(&mut store, list);
     let numbers = played.numbers();
     match played.number {
-        number::LIST_LONG..=number::WILLING => last_line(numbers),
+        number if number::is_of_header(number) => last_line(numbers),
         _ => lines(&played.world, numbers),
     }
 }

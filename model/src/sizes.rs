@@ -3,14 +3,15 @@
 use crate::number;
 use crate::state::Side;
 
-/// Site records a world carries, and codes in each vector.
+/// Site records a world carries, codes in each vector, and weights.
 pub const MAX_SITES: usize = 16;
 /// Fewest sites in a competition.
 pub const MIN_SITES: usize = 3;
 /// Longest list, in bytes.
 pub const MAX_LIST: usize = 32_768;
-/// Bytes in a list's header.
-pub const HEADER_BYTES: usize = 5;
+
+/// A weight for each site.
+pub type Weights = [u8; MAX_SITES];
 
 /// What a list's header says.
 #[derive(Clone, Copy, Debug, PartialEq, Eq, Hash)]
@@ -21,63 +22,79 @@ pub struct Sizes {
     pub abort_quorum: usize,
     /// The willing sites, a bit for each.
     pub willing: u16,
+    /// What each site weighs in a quorum; 0 from n up.
+    pub weights: Weights,
 }
 
 impl Sizes {
     pub const ZEROS: Sizes = Sizes::new(0, 0, 0, 0);
 
-    /// Takes the numbers in the header's order, good or bad.
+    /// Takes the numbers in the first edition's order, good or bad. Each site
+    /// weighs 1.
     pub const fn new(n: usize, commit_quorum: usize, abort_quorum: usize, willing: u16) -> Sizes {
         Sizes {
             n,
             commit_quorum,
             abort_quorum,
             willing,
+            weights: ones(n),
         }
     }
 
-    /// Reads a header.
-    pub fn of_header([n, commit, abort, low, high]: [u8; HEADER_BYTES]) -> Sizes {
-        let willing = u16::from_le_bytes([low, high]);
-        Sizes::new(n.into(), commit.into(), abort.into(), willing)
-    }
-
-    /// Reads the header of a list. Checks 1 to 5, in order.
-    pub fn of_list(list: &[u8]) -> Result<Sizes, u8> {
-        if list.len() > MAX_LIST {
-            return Err(number::LIST_LONG);
-        }
-        let header = list.first_chunk().ok_or(number::LIST_SHORT)?;
-        let sizes = Sizes::of_header(*header);
-        sizes.check()?;
-        Ok(sizes)
-    }
-
-    /// The header that says these sizes.
-    pub fn header(&self) -> [u8; HEADER_BYTES] {
-        let [n, commit, abort] = [self.n, self.commit_quorum, self.abort_quorum].map(|n| n as u8);
-        let [low, high] = self.willing.to_le_bytes();
-        [n, commit, abort, low, high]
-    }
-
-    /// Checks 3 to 5, in order.
+    /// Checks 3, 21, 4 and 5, in order.
     pub fn check(&self) -> Result<(), u8> {
-        let Sizes {
-            n,
-            commit_quorum,
-            abort_quorum,
-            willing,
-        } = *self;
-        if !(MIN_SITES..=MAX_SITES).contains(&n) {
-            return Err(number::SITES);
+        check_sites(self.n)?;
+        self.check_weights()?;
+        self.check_quorums()?;
+        self.check_willing()
+    }
+
+    /// Check 21.
+    pub fn check_weights(&self) -> Result<(), u8> {
+        if self.members().contains(&0) {
+            return Err(number::WEIGHT);
         }
-        if commit_quorum >= n || abort_quorum >= n || commit_quorum + abort_quorum <= n {
+        Ok(())
+    }
+
+    /// Check 4: each quorum can be had without the heaviest site, and they meet.
+    pub fn check_quorums(&self) -> Result<(), u8> {
+        let (all, commit, abort) = (self.weight(), self.commit_quorum, self.abort_quorum);
+        let most = all - self.heaviest();
+        if commit > most || abort > most || commit + abort <= all {
             return Err(number::QUORUMS);
         }
-        if willing & !everyone(n) != 0 {
+        Ok(())
+    }
+
+    /// Check 5.
+    pub fn check_willing(&self) -> Result<(), u8> {
+        if self.willing & !everyone(self.n) != 0 {
             return Err(number::WILLING);
         }
         Ok(())
+    }
+
+    /// Can a world have these sizes? They pass the checks, and no site from n
+    /// up weighs anything.
+    pub fn make_world(&self) -> bool {
+        self.check().is_ok() && self.weights[self.n..].iter().all(|&weight| weight == 0)
+    }
+
+    /// The weights of the sites that take part.
+    fn members(&self) -> &[u8] {
+        &self.weights[..self.n.min(MAX_SITES)]
+    }
+
+    /// What all sites weigh.
+    pub fn weight(&self) -> usize {
+        let weights = self.members().iter();
+        weights.map(|&weight| usize::from(weight)).sum()
+    }
+
+    /// What the heaviest site weighs.
+    pub fn heaviest(&self) -> usize {
+        self.members().iter().copied().max().unwrap_or(0).into()
     }
 
     /// The quorum that a side needs.
@@ -92,6 +109,25 @@ impl Sizes {
     pub fn is_willing(&self, site: usize) -> bool {
         self.willing >> site & 1 == 1
     }
+}
+
+/// Check 3.
+pub fn check_sites(n: usize) -> Result<(), u8> {
+    if !(MIN_SITES..=MAX_SITES).contains(&n) {
+        return Err(number::SITES);
+    }
+    Ok(())
+}
+
+/// A weight of 1 for each of the sites below n.
+pub const fn ones(n: usize) -> Weights {
+    let mut weights = [0; MAX_SITES];
+    let mut site = 0;
+    while site < n && site < MAX_SITES {
+        weights[site] = 1;
+        site += 1;
+    }
+    weights
 }
 
 /// A bit for each of the sites below n.

@@ -79,9 +79,10 @@ impl Actor<'_> {
         }
     }
 
-    /// Are enough entries in the group?
+    /// Do the sites known to be in the group weigh enough?
     fn has_quorum(&self, side: Side) -> bool {
-        self.site.vector.count(State::InGroup(side)) >= self.sizes.quorum(side)
+        let known = &self.site.vector;
+        known.weigh(State::InGroup(side), &self.sizes.weights) >= self.sizes.quorum(side)
     }
 
     /// DELIVER of a row to this site, once it is merged.

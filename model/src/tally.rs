@@ -4,8 +4,10 @@ use std::collections::{BTreeMap, BTreeSet};
 use std::fmt;
 
 use crate::command::Command;
+use crate::header::Header;
 use crate::play::{play_command, play_list_by, Played};
 use crate::row::{ROW_BYTES, STORE_BYTES};
+use crate::scale::Scale;
 use crate::site::{Log, Site};
 use crate::state::{Side, State};
 use crate::world::{World, MAX_ROWS};
@@ -33,6 +35,10 @@ pub enum Sight {
     CommitQuorum,
     /// A coordinator counts an abort quorum and aborts.
     AbortQuorum,
+    /// A coordinator has a quorum by weight and not by how many entries there are.
+    ByWeightAlone,
+    /// A coordinator has the quorum's share of the sites, but they weigh too little.
+    TooLight,
     /// A prepared coordinator times out that knows of no active site and of no
     /// commit group, but of an abort group.
     ThreesForPrepares,
@@ -43,7 +49,7 @@ pub enum Sight {
 }
 
 impl Sight {
-    pub const ALL: [Sight; 13] = [
+    pub const ALL: [Sight; 15] = [
         Sight::Repeat,
         Sight::IdleDelivery,
         Sight::MuchNews,
@@ -54,6 +60,8 @@ impl Sight {
         Sight::CrashMidway,
         Sight::CommitQuorum,
         Sight::AbortQuorum,
+        Sight::ByWeightAlone,
+        Sight::TooLight,
         Sight::ThreesForPrepares,
         Sight::Restart,
         Sight::FullStore,
@@ -71,7 +79,7 @@ impl Day {
     pub fn watch(list: &[u8]) -> Day {
         let mut eye = Eye::new();
         let mut store = vec![0; STORE_BYTES];
-        let played = play_list_by(&mut store, list, |world, store, ask| {
+        let played = play_list_by(&mut store, list, Header::of_list, |world, store, ask| {
             let (command, _) = Command::read(ask)?;
             let before = world.sites.get(command.site()).copied();
             let news_before = world.news;
@@ -131,6 +139,7 @@ impl Eye {
                 self.look_at_leaders(world);
                 self.look_for_quorum(before, after);
                 self.look_for_threes(world.sizes.n, site_before);
+                self.look_at_scale(site_before.and_then(|site| Scale::of(&world.sizes, site)));
             }
             Command::Crash(_) => self.look_at_crash(world),
             Command::Recover(_) => {
@@ -179,6 +188,14 @@ impl Eye {
                 && !known(State::Active)
         };
         self.note(Sight::ThreesForPrepares, before.is_some_and(is_tempted));
+    }
+
+    fn look_at_scale(&mut self, scale: Option<Scale>) {
+        let Some(scale) = scale else {
+            return;
+        };
+        self.note(Sight::ByWeightAlone, scale.is_by_weight_alone());
+        self.note(Sight::TooLight, scale.is_too_light());
     }
 
     fn look_at_crash(&mut self, world: &World) {

@@ -1,6 +1,6 @@
 //! Vectors of codes: what a site knows of each site.
 
-use crate::sizes::MAX_SITES;
+use crate::sizes::{Weights, MAX_SITES};
 use crate::state::{Side, State};
 
 /// Highest code.
@@ -44,6 +44,14 @@ impl Vector {
     pub fn count(&self, state: State) -> usize {
         let code = state.code();
         self.0.iter().filter(|&&held| held == code).count()
+    }
+
+    /// What the sites weigh together that are known to be in a state.
+    pub fn weigh(&self, state: State, weights: &Weights) -> usize {
+        let code = state.code();
+        let entries = self.0.iter().zip(weights);
+        let found = entries.filter(|(&held, _)| held == code);
+        found.map(|(_, &weight)| usize::from(weight)).sum()
     }
 
     /// Merges a sender's row into what site `own` knows: the sender's entry first,

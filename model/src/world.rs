@@ -32,7 +32,7 @@ impl World {
     /// The world before any command; the world of zeros for refused sizes.
     pub fn fresh(sizes: Sizes) -> World {
         let mut world = World::ZEROS;
-        if sizes.check().is_ok() {
+        if sizes.make_world() {
             world.sizes = sizes;
             world.sites[..sizes.n].fill(Site::FRESH);
         }
@@ -43,7 +43,7 @@ impl World {
     pub fn check(&self) -> Result<(), u8> {
         let n = self.sizes.n;
         let mut sites = self.members().iter().enumerate();
-        let is_valid = self.sizes.check().is_ok()
+        let is_valid = self.sizes.make_world()
             && self.row_count <= MAX_ROWS
             && self.news <= MAX_NEWS
             && sites.all(|(own, site)| site.is_valid(n, own));

@@ -3,13 +3,14 @@
 use std::collections::{BTreeMap, HashSet};
 
 use model::calls::{Calls, Model, RESULT_BYTES};
-use model::generate::{duel, Call, Generator};
+use model::generate::{duel, weighted_duel, Call, Generator};
 use model::layout::decode;
 use model::meeting::{meetings, Meeting};
 use model::row::{ROW_BYTES, STORE_BYTES};
+use model::sizes::everyone;
 use model::tally::{Day, Sight, Tally};
-use model::{number, one_command, play_list, Ask, Command, Kind, Played, Row};
-use model::{Role, Side, Site, State, World};
+use model::{number, one_command, play_list, Ask, Command, Header, Kind, Played, Row};
+use model::{Role, Side, Site, Sizes, State, World};
 
 const SEED: u64 = 20_260_401;
 const LISTS: usize = 2_000;
@@ -18,9 +19,11 @@ const CALLS: usize = 10_000;
 const MOST_NEWS: usize = (32_768 - 5) / 4 * 15;
 
 /// In how many of a hundred guided lists each sight must be had.
-const LEAST: [(Sight, usize); 13] = [
+const LEAST: [(Sight, usize); 15] = [
     (Sight::CommitQuorum, 10),
     (Sight::AbortQuorum, 10),
+    (Sight::ByWeightAlone, 10),
+    (Sight::TooLight, 1),
     (Sight::FullStore, 5),
     (Sight::Repeat, 10),
     (Sight::IdleDelivery, 10),
@@ -60,7 +63,7 @@ fn see_through(list: &[u8], end: &Played) {
 fn walk(list: &[u8], end: &Played) -> Vec<u8> {
     let mut world = World::fresh(end.world.sizes);
     let mut store = vec![0xee; STORE_BYTES];
-    let (mut at, mut news) = (5, 0);
+    let (mut at, mut news) = (Header::of_list(list).unwrap().end, 0);
     for _ in 0..end.events {
         let (command, _) = Command::read(Ask::new(list, at)).unwrap();
         let before = world.sites[command.site()];
@@ -128,8 +131,8 @@ fn guided_lists_are_rich() {
     let lists: Vec<Vec<u8>> = (0..LISTS).map(|_| generator.next_guided()).collect();
     let tally = tally_of(&lists);
     assert_rich(&tally);
-    let header_only = lists.iter().filter(|list| list.len() == 5);
-    assert!(header_only.count() > LISTS / 400);
+    let is_header = |list: &&Vec<u8>| Header::of_list(list).unwrap().end == list.len();
+    assert!(lists.iter().filter(is_header).count() > LISTS / 400);
     assert_eq!(tally.longest, 32_768);
     assert!(tally.sites.iter().copied().eq(3..=16));
     assert_ended(&tally);
@@ -159,7 +162,8 @@ fn mixed_lists_meet_every_number_a_list_can() {
     let mut generator = Generator::new(SEED);
     let lists: Vec<Vec<u8>> = (0..LISTS / 2).map(|_| generator.next_list()).collect();
     let tally = tally_of(&lists);
-    for number in (0..=15).filter(|&number| number != number::BAD_ROW) {
+    let of_commands = (0..=15).filter(|&number| number != number::BAD_ROW);
+    for number in of_commands.chain([number::WEIGHT]) {
         assert!(tally.ended(number) > 0, "number {number}");
     }
     // The rows that a list sends are never bad.
@@ -271,6 +275,31 @@ fn duels_fill_the_store_undecided() {
         let day = Day::watch(&list);
         see_through(&list, &day.played);
         assert_eq!((day.played.number, day.played.place), (0, 32_768));
+        assert!(is_undecided(&day), "{n} sites");
+        assert_duel(&day, n);
+    }
+}
+
+/// So many sites of 1, 2, 3 and so on, with quorums as small as can be.
+fn rising_weights(n: usize) -> Sizes {
+    let all = n * (n + 1) / 2;
+    let mut sizes = Sizes::new(n, all / 2 + 1, all.div_ceil(2), everyone(n));
+    let weights = sizes.weights[..n].iter_mut().zip(1..);
+    weights.for_each(|(weight, value)| *weight = value);
+    sizes
+}
+
+#[test]
+fn weighted_duels_fill_the_store_undecided() {
+    for n in 4..=16 {
+        let sizes = rising_weights(n.into());
+        let list = weighted_duel(sizes, u64::from(n), 32_768);
+        let length = 32_767 + usize::from(n % 2);
+        assert_eq!(list.len(), length);
+        let day = Day::watch(&list);
+        see_through(&list, &day.played);
+        assert_eq!((day.played.number, day.played.place), (0, length));
+        assert_eq!(day.played.world.sizes, sizes);
         assert!(is_undecided(&day), "{n} sites");
         assert_duel(&day, n);
     }

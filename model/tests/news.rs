@@ -203,7 +203,7 @@ fn the_news_lie_in_the_head_byte_by_byte() {
         (usize::MAX, [255; 4]),
     ] {
         let bytes = encode(&World { news, ..fresh });
-        assert_eq!(bytes[..10], [2, 3, 2, 0, 2, 0, 7, 0, 0, 0]);
+        assert_eq!(bytes[..10], [3, 3, 2, 0, 2, 0, 7, 0, 0, 0]);
         assert_eq!(bytes[10..14], wanted);
         assert_eq!(bytes[14..16], [0, 0]);
         let news = news.min(u32::MAX as usize);
@@ -214,7 +214,7 @@ fn the_news_lie_in_the_head_byte_by_byte() {
 #[test]
 fn the_head_outside_the_layout() {
     let mut bytes = encode(&World::fresh(three_sites(7)));
-    for (at, byte) in [(0, 0), (0, 1), (0, 3), (14, 1), (15, 1), (14, 255)] {
+    for (at, byte) in [(0, 0), (0, 2), (0, 4), (14, 1), (15, 1), (14, 255)] {
         let kept = std::mem::replace(&mut bytes[at], byte);
         assert_eq!(decode(&bytes), Err(number::WORLD));
         bytes[at] = kept;

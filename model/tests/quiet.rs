@@ -8,7 +8,8 @@ use model::play::{play_command, play_list_by};
 use model::quiet::{self, Asked};
 use model::row::{ROW_BYTES, STORE_BYTES};
 use model::sizes::everyone;
-use model::{Command, Kind, Log, Played, Replies, Role, Row, Side, Site, Sizes, World};
+use model::World;
+use model::{Command, Header, Kind, Log, Played, Replies, Role, Row, Side, Site, Sizes};
 
 use common::quiet::{cost, far_quorums, quorums, Account, SITES, THREE, THREE_AT_ONCE};
 use common::{group, vector};
@@ -27,7 +28,7 @@ fn day(asked: Asked, replies: Replies) -> Day {
     let list = quiet::list(asked, replies);
     let mut store = vec![FILL; STORE_BYTES];
     let mut account = Account::open(list.len(), World::fresh(quiet::sizes(asked)));
-    let played = play_list_by(&mut store, &list, |world, store, ask| {
+    let played = play_list_by(&mut store, &list, Header::of_list, |world, store, ask| {
         let (command, _) = Command::read(ask)?;
         let next = play_command(world, store, ask)?;
         account.add(command, world);

@@ -2,14 +2,13 @@
 
 mod common;
 
-use model::calls::{Calls, Model, RESULT_BYTES};
-use model::layout::{encode, CODES, GROUP_CODES, HEAD_BYTES, SITE_BYTES};
+use model::layout::{encode, CODES, GROUP_CODES, SITES_AT, SITE_BYTES};
 use model::quiet;
 use model::row::{Row, ROW_BYTES, STORE_BYTES};
-use model::{number, one_command, play_list, printed, Ask, Command, Kind, Numbers};
+use model::{number, one_command, play_list, printed, Ask, Command, Kind};
 use model::{GroupRecord, Replies, Role, Side, Site, Sizes, State, Vector, World};
 
-use common::{group, header, three_sites, vector};
+use common::{group, header, numbers_of, three_sites, vector};
 
 /// One command at the start of a list.
 fn play(world: &mut World, store: &mut [u8], list: &[u8]) -> Result<usize, u8> {
@@ -288,18 +287,10 @@ fn worlds_that_are_odd_but_pass() {
 /// after seeing that the changed byte stays.
 fn numbers_with(place: usize, byte: u8) -> (u32, u32) {
     let mut world = encode(&mixed());
-    world[HEAD_BYTES + place] = byte;
-    let mut result = [0; RESULT_BYTES];
-    let numbers = Numbers {
-        events: 0,
-        stop: 0,
-        place: 0,
-    };
-    let reported = Model.report(&world, numbers, &mut [0; 1024], &mut result);
-    let ask = Ask::new(&[4, 2], 0);
-    let played = Model.play_command(&mut world, &mut [0; STORE_BYTES], ask, &mut result);
-    assert_eq!(world[HEAD_BYTES + place], byte);
-    (played, reported)
+    world[SITES_AT + place] = byte;
+    let numbers = numbers_of(&mut world);
+    assert_eq!(world[SITES_AT + place], byte);
+    numbers
 }
 
 #[test]

@@ -12,7 +12,7 @@ use model::{read_lines, write_lines, Output};
 const FOLDER: &str = concat!(env!("CARGO_MANIFEST_DIR"), "/../tests/vectors");
 
 /// How many of each sort there are at the least.
-const LEAST: usize = 71;
+const LEAST: usize = 161;
 const LEAST_WRITTEN: usize = 60;
 const LEAST_READ: usize = 80;
 

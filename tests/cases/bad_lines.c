@@ -109,6 +109,8 @@ static const struct line_case text_headers[] = {
     {"3 sites 2", TEXT("sites 2 commit 2 abort 2 willing 0\n"), 3, 0},
     {"3 sites 17", TEXT("sites 17 commit 15 abort 15 willing 0\n"), 3, 0},
     {"3 sites 130", TEXT("sites 130 commit 3 abort 2 willing 512\n"), 3, 0},
+    {"3 sites 130 and commands", TEXT("sites 130 commit 3 abort 2 willing 512\nstart\ntimeout 0\n"), 3, 0},
+    {"3 sites 131", TEXT("sites 131 commit 3 abort 2 willing 512\n"), 3, 0},
     {"3 sites 255, other numbers their greatest", TEXT("sites 255 commit 255 abort 255 willing 65535\n"), 3, 0},
     {"4 n 4, commit 2, abort 2", TEXT("sites 4 commit 2 abort 2 willing 0\n"), 4, 0},
     {"4 commit equal to n", TEXT("sites 4 commit 4 abort 3 willing 0\n"), 4, 0},

@@ -1,4 +1,4 @@
-/* Cases just inside and just outside of every number, and of merging, as tables: what the tables share.
+/* Cases just inside and just outside of every number, of merging and of weights, as tables: what the tables share.
  *
  * What a case must give is worked out by hand from documents 01 and 02, and it is played through the C functions. A refused command or report must
  * leave every buffer as it was, and refused lines their buffer. A difference is told with the case's name, and ends the program.
@@ -20,6 +20,10 @@ void line_cases(void);
 void bad_line_cases(void);
 void long_line_cases(void);
 void quiet_cases(void);
+void weight_cases(void);
+void edition_cases(void);
+void weighing_cases(void);
+void timeout_cases(void);
 
 /* The case that is played from here on; and what was got of it. */
 void begin(const char *name);
@@ -30,13 +34,36 @@ void expect(const char *what, uint64_t got, uint64_t wanted);
 /* Bytes written in a table, and their length. */
 #define BYTES(...) (const uint8_t[]){__VA_ARGS__}, sizeof((const uint8_t[]){__VA_ARGS__})
 
-/* What a world has other than a fresh one of three sites, C = A = 2, all willing: a number at a place of its bytes, low byte first. */
+/* A number of 16 bits as two bytes of a list. */
+#define NUMBER16(number) (uint8_t)((number) & 255), (uint8_t)((number) >> 8)
+
+/* A header of the second edition, but for its weights. */
+#define SECOND(n, c, a, willing) QC_SECOND_EDITION, n, NUMBER16(c), NUMBER16(a), NUMBER16(willing)
+
+/* A whole list, and what playing it gives. */
+struct list_case {
+    const char *name;
+    const uint8_t *list;
+    size_t length;
+    unsigned answer, events, place;
+};
+
+/* Plays it. Where the store's length or the list's, or its header, is refused, the world must be that of zeros and the store untouched. */
+void expect_list(const struct list_case *one);
+void expect_lists(const struct list_case *table, size_t count);
+void expect_lists_in(size_t store_length, const struct list_case *table, size_t count);
+
+/* The world after the last such list, and its store. */
+const uint8_t *listed_world(void);
+const uint8_t *listed_store(void);
+
+/* What a world has other than a fresh one of three sites, C = A = 2, all willing, weights 1: a number at a place of its bytes, low byte first. */
 struct change {
     unsigned at, bytes, value;
 };
 
 /* At most so many; the others are 0 and change nothing. */
-#define CHANGES 8
+#define CHANGES 16
 
 #define LAYOUT_NUMBER(number) {0, 1, number}
 #define SITES(n) {1, 1, n}
@@ -46,9 +73,13 @@ struct change {
 #define ROWS(count) {8, 2, count}
 #define NEWS(count) {10, 4, count}
 #define RESERVED(at) {at, 1, 1}
-#define OF_SITE(site, at, value) {16 + 40 * (site) + (at), 1, value}
+#define WEIGHT(site, weight) {16 + (site), 1, weight}
+#define WEIGHTS4(site, weight) {16 + (site), 4, 0x01010101u * (weight)}
+#define WEIGHTS16(weight) WEIGHTS4(0, weight), WEIGHTS4(4, weight), WEIGHTS4(8, weight), WEIGHTS4(12, weight)
+#define OF_SITE(site, at, value) {32 + 40 * (site) + (at), 1, value}
 #define DOWN(site) OF_SITE(site, 0, 0)
 #define UP(site) OF_SITE(site, 0, 1)
+#define LEADS(site) OF_SITE(site, 1, QC_COORDINATOR)
 #define PREPARED(site) OF_SITE(site, 2, 1)
 #define GROUP(site, record) OF_SITE(site, 3, record)
 #define OUTCOME(site, record) OF_SITE(site, 4, record)

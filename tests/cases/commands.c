@@ -13,7 +13,7 @@ struct command_case {
 /* Site 0 has timed out while active. */
 #define ABORTED OUTCOME(0, QC_ABORT), CODE(0, 0, QC_ABORTED)
 
-#define SIXTEEN SITES(16), COMMIT_QUORUM(9), ABORT_QUORUM(8), WILLING(0xffff), UP(15)
+#define SIXTEEN SITES(16), COMMIT_QUORUM(9), ABORT_QUORUM(8), WILLING(0xffff), UP(15), WEIGHTS16(1)
 
 static const struct command_case reading[] = {
     {"6 a place at the end", FRESH, {BYTES(1), 1, 6, 0}},

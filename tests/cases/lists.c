@@ -1,4 +1,4 @@
-/* Numbers of a whole list: 1 to 7, 15 and 16, and those that a restart leads to. */
+/* Numbers of a whole list of the first edition: 1 to 7, 15 and 16, and those that a restart leads to. The second is in weights.c. */
 #include <string.h>
 
 #include "cases.h"
@@ -6,16 +6,12 @@
 /* Three sites, C = A = 2, all willing. */
 #define HEADER 3, 2, 2, 7, 0
 
+/* What lent buffers hold before a play. */
+enum { FILL = 0xee };
+
 static uint8_t store[QC_STORE_BYTES];
 static uint8_t world[QC_WORLD_BYTES];
 static uint8_t result[QC_RESULT_BYTES];
-
-struct list_case {
-    const char *name;
-    const uint8_t *list;
-    size_t length;
-    unsigned answer, events, place;
-};
 
 static const struct list_case sizes[] = {
     {"2 four bytes", BYTES(3, 2, 2, 7), 2, 0, 0},
@@ -25,6 +21,9 @@ static const struct list_case sizes[] = {
     {"3 n of 3 passes", BYTES(3, 2, 2, 0, 0), 0, 0, 5},
     {"3 n of 16 passes", BYTES(16, 15, 15, 0, 0), 0, 0, 5},
     {"3 n of 17", BYTES(17, 15, 15, 0, 0), 3, 0, 0},
+    {"3 n of 129", BYTES(129, 15, 15, 0, 0), 3, 0, 0},
+    {"3 n of 131", BYTES(131, 15, 15, 0, 0), 3, 0, 0},
+    {"3 n of 132", BYTES(132, 15, 15, 0, 0), 3, 0, 0},
     {"3 n of 255", BYTES(255, 15, 15, 0, 0), 3, 0, 0},
     {"4 n 4, C 2, A 2", BYTES(4, 2, 2, 0, 0), 4, 0, 0},
     {"4 n 4, C 2, A 3 passes", BYTES(4, 2, 3, 0, 0), 0, 0, 5},
@@ -80,19 +79,69 @@ static const struct list_case restarts[] = {
     {"9 a row after a restart and TIMEOUT passes", BYTES(HEADER, 4, 1, 5, 1, 3, 1, 2, 0, 0, 0), 0, 4, 15},
 };
 
-static void play(const struct list_case *one)
+/* The store's length comes before the list's. */
+static const struct list_case short_store[] = {
+    {"16 a store of 20,479 bytes", BYTES(HEADER, 1), 16, 0, 0},
+    {"16 before 2", BYTES(3, 2, 2, 7), 16, 0, 0},
+    {"16 before 3", BYTES(2, 2, 2, 7, 0), 16, 0, 0},
+};
+
+static const struct list_case least_store[] = {
+    {"16 a store of 20,480 bytes passes", BYTES(HEADER, 1), 0, 1, 6},
+};
+
+const uint8_t *listed_world(void)
 {
-    begin(one->name);
-    expect("number", qc_play_list(one->list, one->length, store, sizeof store, world, sizeof world, result, sizeof result), one->answer);
-    expect("events", qc_result_events(result), one->events);
-    expect("place", qc_result_place(result), one->place);
+    return world;
 }
 
-static void play_all(const struct list_case *table, size_t count)
+const uint8_t *listed_store(void)
+{
+    return store;
+}
+
+/* Is nothing played: 16, 1 to 5 and 21? */
+static int has_no_world(unsigned answer)
+{
+    return (answer >= QC_LIST_LONG && answer <= QC_BAD_WILLING) || answer == QC_STORE_SHORT || answer == QC_BAD_WEIGHT;
+}
+
+static void expect_nothing_played(void)
+{
+    static const uint8_t zeros[QC_WORLD_BYTES] = {QC_LAYOUT};
+    static uint8_t untouched[QC_STORE_BYTES];
+    memset(untouched, FILL, sizeof untouched);
+    expect("refused, not the world of zeros", memcmp(world, zeros, sizeof world) != 0, 0);
+    expect("refused, store changed", memcmp(store, untouched, sizeof store) != 0, 0);
+}
+
+static void expect_list_in(size_t store_length, const struct list_case *one)
+{
+    begin(one->name);
+    memset(store, FILL, sizeof store);
+    memset(world, FILL, sizeof world);
+    expect("number", qc_play_list(one->list, one->length, store, store_length, world, sizeof world, result, sizeof result), one->answer);
+    expect("events", qc_result_events(result), one->events);
+    expect("place", qc_result_place(result), one->place);
+    if (has_no_world(one->answer))
+        expect_nothing_played();
+}
+
+void expect_lists_in(size_t store_length, const struct list_case *table, size_t count)
 {
     size_t i;
     for (i = 0; i < count; i++)
-        play(&table[i]);
+        expect_list_in(store_length, &table[i]);
+}
+
+void expect_lists(const struct list_case *table, size_t count)
+{
+    expect_lists_in(QC_STORE_BYTES, table, count);
+}
+
+void expect_list(const struct list_case *one)
+{
+    expect_list_in(QC_STORE_BYTES, one);
 }
 
 /* START, then CRASH 1 and RECOVER 1 in turn: 1 byte and 8,190 times 4, and the last crash. */
@@ -107,9 +156,9 @@ static void lengths(void)
         list[at] = at % 4 == 2 ? QC_CRASH : QC_RECOVER;
         list[at + 1] = 1;
     }
-    play(&none);
-    play(&longest);
-    play(&longer);
+    expect_list(&none);
+    expect_list(&longest);
+    expect_list(&longer);
 }
 
 /* n 4, C = A = 3: TIMEOUT 3 again and again. The first writes abort, each later one sends the outcome. */
@@ -119,32 +168,17 @@ static void rows(void)
     const struct list_case last = {"15 row 1,023 as the 1,024th passes", list, 2055, 0, 1025, 2055};
     const struct list_case more = {"15 row 1,024 as the 1,025th", list, 2057, 15, 1025, 2055};
     memset(list + QC_HEADER_BYTES, QC_TIMEOUT, sizeof list - QC_HEADER_BYTES);
-    play(&last);
-    play(&more);
-}
-
-/* The store's length comes before the list's. */
-static void stores(void)
-{
-    static uint8_t before[QC_STORE_BYTES];
-    static const uint8_t list[] = {HEADER, QC_START};
-    memset(store, 9, sizeof store);
-    memset(before, 9, sizeof before);
-    begin("16 a store of 20,479 bytes");
-    expect("number", qc_play_list(list, sizeof list, store, QC_STORE_BYTES - 1, world, sizeof world, result, sizeof result), 16);
-    expect("refused, store changed", memcmp(store, before, sizeof store) != 0, 0);
-    begin("16 before 2");
-    expect("number", qc_play_list(list, 0, store, QC_STORE_BYTES - 1, world, sizeof world, result, sizeof result), 16);
-    begin("16 a store of 20,480 bytes passes");
-    expect("number", qc_play_list(list, sizeof list, store, QC_STORE_BYTES, world, sizeof world, result, sizeof result), 0);
+    expect_list(&last);
+    expect_list(&more);
 }
 
 void list_cases(void)
 {
     lengths();
-    play_all(sizes, COUNT(sizes));
-    play_all(commands, COUNT(commands));
-    play_all(restarts, COUNT(restarts));
+    expect_lists(sizes, COUNT(sizes));
+    expect_lists(commands, COUNT(commands));
+    expect_lists(restarts, COUNT(restarts));
     rows();
-    stores();
+    expect_lists_in(QC_STORE_BYTES - 1, short_store, COUNT(short_store));
+    expect_lists_in(QC_STORE_BYTES, least_store, COUNT(least_store));
 }

@@ -74,6 +74,10 @@ int main(void)
     bad_line_cases();
     long_line_cases();
     quiet_cases();
-    printf("cases: %u cases, around the numbers 1 to 20 and of merging\n", cases);
+    weight_cases();
+    edition_cases();
+    weighing_cases();
+    timeout_cases();
+    printf("cases: %u cases, around the numbers 1 to 21, of merging and of weights\n", cases);
     return 0;
 }

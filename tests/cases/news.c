@@ -20,7 +20,7 @@ struct news_case {
 /* To site 1, which is fresh unless the case says otherwise. */
 #define DELIVERED(answer) {BYTES(QC_DELIVER, 0, 0, 1), 0, answer, 4}
 
-#define SIXTEEN SITES(16), COMMIT_QUORUM(15), ABORT_QUORUM(15)
+#define SIXTEEN SITES(16), COMMIT_QUORUM(15), ABORT_QUORUM(15), WEIGHTS16(1)
 
 static const struct news_case merges[] = {
     {"news of none", {ROWS(1)}, VOTE(0, 0, 0), DELIVERED(0), 0},

@@ -42,7 +42,8 @@ pub fn timeout(
         let n = head.n;
         let commit = head.commit;
         let abort = head.abort;
-        let step = Participant { own, n, site }.timeout(commit, abort);
+        let weights = head.weights;
+        let step = Participant { own, n, site }.timeout(weights, commit, abort);
         return enter(head, store, at, next, own, site, step);
     }
     refused(12, head, at, site)

@@ -14,14 +14,16 @@ use word::wide;
 
 // The world without its sites.
 fn head_at(world: &[u8]) -> Head
-    requires { ⌜ 656 ≤ length (now world) ⌝ }
+    requires { ⌜ 672 ≤ length (now world) ⌝ }
     ensures { λ r. ⌜ r ≡ headOf (worldAt (now (world .entry))) ⌝ }
 {
+    let weights = code_bytes::get_codes(world, 16);
     Head {
         n: wide(world[1]),
         commit: CommitQuorum(decode::word_at(world, 2)),
         abort: AbortQuorum(decode::word_at(world, 4)),
         willing: decode::word_at(world, 6),
+        weights,
         rows: decode::word_at(world, 8),
         news: decode::long_at(world, 10),
     }

@@ -2,7 +2,7 @@
 use Prim.Native.Nat.{ℕ, zero, suc, _+_, _^_}
 use Prim.Native.String.{String}
 use mathlib.Core.List.{List, [], _∷_, _++_}
-use lib.ListN.{replicate}
+use lib.ListN.{length, replicate}
 use Rattle.text.specs.Text.{text}
 use Rattle.row.specs.declared.Row.{Row}
 use Rattle.row.specs.Rows.{getRow}
@@ -34,6 +34,11 @@ RECOVER site = 5 ∷ site ∷ []
 -- a header with n = 3, C = A = 2 and the willing sites' bits
 unfoldable pub three : ℕ → List ℕ
 three willing = 3 ∷ 2 ∷ 2 ∷ willing ∷ 0 ∷ []
+
+-- a second-edition header: C and A (below 256 in these days), the willing sites' bits, and a weight for each site
+unfoldable pub weighed : ℕ → ℕ → ℕ → List ℕ → List ℕ
+weighed commit abort willing weights =
+    130 ∷ length weights ∷ commit ∷ 0 ∷ abort ∷ 0 ∷ willing ∷ 0 ∷ weights
 
 -- A ROW SENT: kind, sender, destinations, and its first n codes as digits
 pub record Sent : Type 0 where

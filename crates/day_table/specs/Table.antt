@@ -1,11 +1,12 @@
 -- THE DAYS AT THREE CLUBS marked M in document 01, "Days at three clubs": each list of bytes, and what playing it is to show. Not among
--- them: T1 plays a temptation; R1 to R3 are restarts, for request (i) of document 02. Written from the papers. n = 3, C = A = 2, all
--- willing (bits 7) unless said. A report's site line is: number, up or down, role, state, log, n codes. A row is: kind, sender,
--- destinations, codes. The news is request (ii)'s: how many entries of other sites the day's deliveries raised.
+-- them: T1 plays a temptation; R1 to R3 are restarts, for request (i) of document 02, and W1 has sites of different weight, for request
+-- (vi). Written from the papers. n = 3, C = A = 2, all willing (bits 7) unless said. A report's site line is: number, up or down, role,
+-- state, log, n codes. A row is: kind, sender, destinations, codes. The news is request (ii)'s: how many entries of other sites the day's
+-- deliveries raised.
 use Prim.Native.Nat.{ℕ}
 use mathlib.Core.List.{List, [], _∷_, _++_}
 use Rattle.site.specs.Records.{wrote, prepareRecord, groupRecord, outcomeRecord, abort}
-use Rattle.day_table.specs.Shown.{START, DELIVER, TIMEOUT, CRASH, RECOVER, three, prepare, vote, joinAbort, inGroup, outcome, lines, Shown}
+use Rattle.day_table.specs.Shown.{START, DELIVER, TIMEOUT, CRASH, RECOVER, three, weighed, prepare, vote, joinAbort, inGroup, outcome, lines, Shown}
 
 pub record Day : Type 0 where
   pub list : List ℕ
@@ -387,6 +388,50 @@ R3 =
           };
     }
 
+-- W1 weights 2, 2 and 1, C = A = 3: the day M3. At TIMEOUT 0 the abort group is sites 0 and 2: two sites, which weigh 3
+unfoldable pub W1 : Day
+W1 =
+    record {
+      list =
+          weighed 3 3 7 (2 ∷ 2 ∷ 1 ∷ [])
+          ++ START
+          ++ DELIVER 0 1
+          ++ DELIVER 1 0
+          ++ TIMEOUT 0
+          ++ DELIVER 2 2
+          ++ DELIVER 3 0
+          ++ TIMEOUT 0;
+      expected =
+          record {
+            number = 0;
+            place = 32;
+            events = 7;
+            rows =
+                prepare 0 (1 ∷ 2 ∷ []) "100"
+                ∷ vote 1 (0 ∷ []) "110"
+                ∷ joinAbort 0 (1 ∷ 2 ∷ []) "310"
+                ∷ inGroup 2 (0 ∷ []) "313"
+                ∷ outcome 0 (1 ∷ 2 ∷ []) "513"
+                ∷ [];
+            records =
+                wrote 0 prepareRecord
+                ∷ wrote 1 prepareRecord
+                ∷ wrote 0 (groupRecord abort)
+                ∷ wrote 2 (groupRecord abort)
+                ∷ wrote 0 (outcomeRecord abort)
+                ∷ [];
+            news = 5;
+            report =
+                lines
+                ("sites 3 commit 3 abort 3 events 7 rows 5 news 5"
+                ∷ "0 up coordinator aborted PAa 513"
+                ∷ "1 up subordinate prepared P-- 110"
+                ∷ "2 up subordinate abort-group -A- 313"
+                ∷ "end 32"
+                ∷ []);
+          };
+    }
+
 -- THE TABLE
 unfoldable pub days : List Day
-days = M1 ∷ M2 ∷ M3 ∷ M4 ∷ M5 ∷ M6 ∷ M7 ∷ M8 ∷ M9 ∷ M10 ∷ T1 ∷ R1 ∷ R2 ∷ R3 ∷ []
+days = M1 ∷ M2 ∷ M3 ∷ M4 ∷ M5 ∷ M6 ∷ M7 ∷ M8 ∷ M9 ∷ M10 ∷ T1 ∷ R1 ∷ R2 ∷ R3 ∷ W1 ∷ []

@@ -1,9 +1,6 @@
 // A day: a list and its whole report, played at once and a command at a time.
-use command::byte_at;
 use list::ListPlayed;
 use play::Played;
-use site::AbortQuorum;
-use site::CommitQuorum;
 use world::World;
 
 // The report's text is the expected one.
@@ -36,14 +33,16 @@ fn end_of(whole: ListPlayed) -> Played {
     }
 }
 
-// The world of a list's header. A day has at most eight sites, so the low byte has all willing sites.
+// The world of a list's header.
 fn begun(list: &[u8]) -> Played {
-    let commit = CommitQuorum(byte_at(list, 1));
-    let abort = AbortQuorum(byte_at(list, 2));
+    let header = header::read_header(list);
+    let commit = header.commit;
+    let abort = header.abort;
+    let weights = header::read_weights(list, header.n);
     Played {
         number: 0,
-        world: World::fresh(byte_at(list, 0), commit, abort, byte_at(list, 3)),
-        place: 5,
+        world: World::fresh(header.n, weights, commit, abort, header.willing),
+        place: header::header_length(list),
     }
 }
 

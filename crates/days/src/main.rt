@@ -4,9 +4,11 @@ mod day;
 mod marked;
 mod restarted;
 mod tempted;
+mod weighed;
 
 fn main() {
     marked::cases();
     tempted::cases();
     restarted::cases();
+    weighed::cases();
 }

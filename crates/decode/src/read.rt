@@ -2,7 +2,8 @@
 ghost use mathlib.Core.Path.{_≡_};
 ghost use Prim.Native.Nat.{_+_, _≤_};
 ghost use lib.ListN.{length};
-ghost use Rattle.layout.specs.Numbers.{wordAt, longAt};
+ghost use Rattle.word.specs.Words.{wordAt};
+ghost use Rattle.layout.specs.Numbers.{longAt};
 ghost use Rattle.layout.specs.Layout.{siteAt, sitesFrom, worldAt};
 use layout::group_of;
 use layout::outcome_of;
@@ -48,7 +49,7 @@ pub fn site_at(bytes: &[u8], at: usize) -> Site
 }
 
 fn sites_at(bytes: &[u8]) -> [Site; 16]
-    requires { ⌜ 656 ≤ length (now bytes) ⌝ }
+    requires { ⌜ 672 ≤ length (now bytes) ⌝ }
     ensures { λ r. ⌜ r ≡ sitesFrom 16 (now (bytes .entry)) ⌝ }
 {
     let down = Site::blank(false);
@@ -63,15 +64,17 @@ fn sites_at(bytes: &[u8]) -> [Site; 16]
 
 // The world that the bytes hold, whether or not they are inside the layout.
 pub fn world_at(bytes: &[u8]) -> World
-    requires { ⌜ 656 ≤ length (now bytes) ⌝ }
+    requires { ⌜ 672 ≤ length (now bytes) ⌝ }
     ensures { λ r. ⌜ r ≡ worldAt (now (bytes .entry)) ⌝ }
 {
+    let weights = code_bytes::get_codes(bytes, 16);
     World {
         sites: sites_at(bytes),
         n: wide(bytes[1]),
         commit: CommitQuorum(word_at(bytes, 2)),
         abort: AbortQuorum(word_at(bytes, 4)),
         willing: word_at(bytes, 6),
+        weights,
         rows: word_at(bytes, 8),
         news: long_at(bytes, 10),
     }

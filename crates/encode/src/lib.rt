@@ -5,7 +5,7 @@ ghost use Prim.Native.Nat.{ℕ, _+_, _≤_, _<_};
 ghost use lib.ListN.{length, getD};
 ghost use Rattle.world.specs.Worlds.{withSite, withRows, withNews};
 ghost use Rattle.layout.specs.Numbers.{putNumber};
-ghost use Rattle.layout.specs.Layout.{putHead, putFlags, putSite, putSites, putWorld, worldAt, inLayout};
+ghost use Rattle.layout.specs.Layout.{putNumbers, putHead, putFlags, putSite, putSites, putWorld, worldAt, inLayout};
 use layout::LAYOUT;
 use layout::flag_byte;
 use layout::group_byte;
@@ -28,10 +28,10 @@ pub fn put_number(bytes: &mut [u8], at: usize, count: usize, number: usize)
     }
 }
 
-// The sixteen bytes before the sites.
-fn put_head(bytes: &mut [u8], world: World)
-    requires { ⌜ 656 ≤ length (now bytes) ⌝ }
-    ensures { λ _. ⌜ now (bytes .exit) ≡ putHead (now (bytes .entry)) world ⌝ }
+// The numbers, sixteen bytes.
+fn put_numbers(bytes: &mut [u8], world: World)
+    requires { ⌜ 672 ≤ length (now bytes) ⌝ }
+    ensures { λ _. ⌜ now (bytes .exit) ≡ putNumbers (now (bytes .entry)) world ⌝ }
 {
     let commit = world.commit;
     let abort = world.abort;
@@ -43,6 +43,16 @@ fn put_head(bytes: &mut [u8], world: World)
     put_number(bytes, 8, 2, world.rows);
     put_number(bytes, 10, 4, world.news);
     put_number(bytes, 14, 2, 0);
+}
+
+// The thirty-two bytes before the sites.
+fn put_head(bytes: &mut [u8], world: World)
+    requires { ⌜ 672 ≤ length (now bytes) ⌝ }
+    ensures { λ _. ⌜ now (bytes .exit) ≡ putHead (now (bytes .entry)) world ⌝ }
+{
+    put_numbers(bytes, world);
+    let weights = world.weights;
+    code_bytes::put_codes(bytes, 16, weights);
 }
 
 // The eight bytes before a site's codes.
@@ -72,7 +82,7 @@ fn put_site(bytes: &mut [u8], at: usize, site: Site)
 }
 
 fn put_sites(bytes: &mut [u8], world: World)
-    requires { ⌜ 656 ≤ length (now bytes) ⌝ }
+    requires { ⌜ 672 ≤ length (now bytes) ⌝ }
     ensures { λ _. ⌜ now (bytes .exit) ≡ putSites 16 (now (bytes .entry)) world ⌝ }
 {
     let mut k = 0;
@@ -84,7 +94,7 @@ fn put_sites(bytes: &mut [u8], world: World)
 
 // The whole world, from the buffer's beginning.
 pub fn put_world(bytes: &mut [u8], world: World)
-    requires { ⌜ 656 ≤ length (now bytes) ⌝ }
+    requires { ⌜ 672 ≤ length (now bytes) ⌝ }
     ensures { λ _. ⌜ now (bytes .exit) ≡ putWorld (now (bytes .entry)) world ⌝ }
 {
     put_head(bytes, world);

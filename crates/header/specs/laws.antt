@@ -1,1 +1,3 @@
 pub mod HeaderLaws
+pub mod FirstLaws
+pub mod Editions

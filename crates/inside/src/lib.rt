@@ -48,7 +48,7 @@ fn site_in_layout(bytes: &[u8], at: usize) -> bool
 
 // The sites before k are inside the layout, and site k is.
 fn site_through(bytes: &[u8], before: bool, k: usize) -> bool
-    requires { ⌜ (k < 16) × (656 ≤ length (now bytes)) ⌝ }
+    requires { ⌜ (k < 16) × (672 ≤ length (now bytes)) ⌝ }
     ensures { λ r. ⌜ r ≡ both before (siteInLayout (now (bytes .entry)) (sitePlace k)) ⌝ }
 {
     if before {
@@ -58,7 +58,7 @@ fn site_through(bytes: &[u8], before: bool, k: usize) -> bool
 }
 
 fn sites_in_layout(bytes: &[u8]) -> bool
-    requires { ⌜ 656 ≤ length (now bytes) ⌝ }
+    requires { ⌜ 672 ≤ length (now bytes) ⌝ }
     ensures { λ r. ⌜ r ≡ sitesInLayout 16 (now (bytes .entry)) ⌝ }
 {
     let mut holds = true;

@@ -8,11 +8,13 @@ use Rattle.world.specs.declared.World.{World}
 use Rattle.world.specs.Worlds.{siteOf}
 use Rattle.layout.specs.Layout.{worldBytes, putWorld, worldAt, inLayout}
 
--- what the bytes can hold: sixteen sites with vectors of sixteen codes, and numbers that fit their fields
+-- what the bytes can hold: sixteen sites with vectors of sixteen codes, sixteen weights of a byte each, and numbers that fit their fields
 pub record Fits (w : World) : Type 0 where
   pub sites : length (w .sites) ≡ 16
   pub codes : (j : ℕ) → j < 16 → length (siteOf w j .codes) ≡ 16
   pub joined : (j : ℕ) → j < 16 → length (siteOf w j .joined) ≡ 16
+  pub weights : length (w .weights) ≡ 16
+  pub weights-fit : (j : ℕ) → j < 16 → getD (w .weights) j 0 < 256
   pub n-fits : w .n < 256
   pub commit-fits : w .commit .0 < 65536
   pub abort-fits : w .abort .0 < 65536

@@ -1,4 +1,4 @@
--- A world as 656 bytes, the layout of docs/LAYOUT.md.
+-- A world as 672 bytes, the layout of docs/LAYOUT.md.
 use Prim.Native.Nat.{ℕ, zero, suc, _+_, _*_}
 use mathlib.Core.Bool.{Bool, true}
 use mathlib.Core.List.{List}
@@ -13,19 +13,20 @@ use Rattle.site.specs.declared.Outcome.the-variants as Outcome·
 use Rattle.site.specs.declared.Site.{Site}
 use Rattle.world.specs.declared.World.{World}
 use Rattle.world.specs.Worlds.{downSites, siteOf}
-use Rattle.layout.specs.Numbers.{putNumber, wordAt, longAt}
+use Rattle.word.specs.Words.{wordAt}
+use Rattle.layout.specs.Numbers.{putNumber, longAt}
 
 -- the length of a world in bytes
 abbrev pub worldBytes : ℕ
-worldBytes = 656
+worldBytes = 672
 
 -- the layout number, a world's first byte
 abbrev pub layoutNumber : ℕ
-layoutNumber = 2
+layoutNumber = 3
 
--- where site k lies: after the sixteen bytes of the head, forty bytes each
+-- where site k lies: after the head, sixteen bytes of numbers and sixteen weights; forty bytes each
 unfoldable pub sitePlace : ℕ → ℕ
-sitePlace k = 16 + 40 * k
+sitePlace k = 32 + 40 * k
 
 -- writing
 
@@ -46,8 +47,8 @@ outcomeByte Outcome·.Commit = 1
 outcomeByte Outcome·.Abort = 2
 
 -- layout number, n, C, A, willing, rows, news, two zeros
-unfoldable pub putHead : List ℕ → World → List ℕ
-putHead b w =
+unfoldable pub putNumbers : List ℕ → World → List ℕ
+putNumbers b w =
     putNumber 2
     (putNumber 4
     (putNumber 2
@@ -57,6 +58,10 @@ putHead b w =
     8 (w .rows))
     10 (w .news))
     14 0
+
+-- the numbers, then the sixteen weights
+unfoldable pub putHead : List ℕ → World → List ℕ
+putHead b w = putCodes 16 (putNumbers b w) 16 (w .weights)
 
 -- up, role, prepare record, group, outcome, three zeros
 unfoldable pub putFlags : List ℕ → ℕ → Site → List ℕ
@@ -117,6 +122,7 @@ worldAt b =
       commit = record { 0 = wordAt b 2 };
       abort = record { 0 = wordAt b 4 };
       willing = wordAt b 6;
+      weights = codesFrom 16 b 16;
       rows = wordAt b 8;
       news = longAt b 10;
     }
@@ -137,7 +143,7 @@ unfoldable pub sitesInLayout : ℕ → List ℕ → Bool
 sitesInLayout zero b = true
 sitesInLayout (suc k) b = both (sitesInLayout k b) (siteInLayout b (sitePlace k))
 
--- INSIDE THE LAYOUT: 656 bytes, the layout number, the reserved bytes 0, every flag in its range
+-- INSIDE THE LAYOUT: 672 bytes, the layout number, the reserved bytes 0, every flag in its range
 unfoldable pub inLayout : List ℕ → Bool
 inLayout b =
     both (eqb (length b) worldBytes)

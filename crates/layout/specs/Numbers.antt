@@ -1,7 +1,8 @@
 -- Numbers in bytes, low byte first.
 use Prim.Native.Nat.{ℕ, zero, suc, _+_, _*_, _/_, _%_}
 use mathlib.Core.List.{List}
-use lib.ListN.{getD, set}
+use lib.ListN.{set}
+use Rattle.word.specs.Words.{wordAt}
 
 -- a number without its k low bytes
 unfoldable pub shifted : ℕ → ℕ → ℕ
@@ -12,10 +13,6 @@ shifted (suc k) x = shifted k x / 256
 unfoldable pub putNumber : ℕ → List ℕ → ℕ → ℕ → List ℕ
 putNumber zero bytes at x = bytes
 putNumber (suc k) bytes at x = set (putNumber k bytes at x) (at + k) (shifted k x % 256)
-
--- the 16 bits at a place
-unfoldable pub wordAt : List ℕ → ℕ → ℕ
-wordAt bytes at = getD bytes at 0 + 256 * getD bytes (at + 1) 0
 
 -- the 32 bits at a place
 unfoldable pub longAt : List ℕ → ℕ → ℕ

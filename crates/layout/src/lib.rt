@@ -1,4 +1,4 @@
-// A world as 656 bytes: its length and layout number, the place of a site, the bytes of flags, groups and outcomes.
+// A world as 672 bytes: its length and layout number, the place of a site, the bytes of flags, groups and outcomes.
 mod values;
 
 pub use values::flag_byte;
@@ -9,7 +9,7 @@ pub use values::outcome_of;
 pub use values::site_place;
 
 // The length of a world.
-pub const WORLD_BYTES: usize = 656;
+pub const WORLD_BYTES: usize = 672;
 
 // The layout number, a world's first byte.
-pub const LAYOUT: u8 = 2;
+pub const LAYOUT: u8 = 3;

@@ -8,9 +8,9 @@ use site::Outcome;
 // Where site k lies.
 pub fn site_place(k: usize) -> usize
     requires { ⌜ k < 16 ⌝ }
-    ensures { λ r. ⌜ (r ≡ sitePlace k) × (r ≡ 16 + 40 * k) ⌝ }
+    ensures { λ r. ⌜ (r ≡ sitePlace k) × (r ≡ 32 + 40 * k) ⌝ }
 {
-    16 + 40 * k
+    32 + 40 * k
 }
 
 pub fn flag_byte(flag: bool) -> u8

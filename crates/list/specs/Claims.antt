@@ -1,10 +1,11 @@
 -- What is claimed of playing a whole list.
 use Prim.Native.Nat.{ℕ, _+_, _≤_}
+use mathlib.Core.Bool.{Bool, true}
 use mathlib.Core.List.{List, [], _∷_, _++_}
 use mathlib.Core.Path.{_≡_}
-use lib.Dec.{eqb}
+use lib.Dec.{leb, eqb}
 use lib.ListN.{length, getD}
-use Rattle.choice.specs.Choice.{pick}
+use Rattle.choice.specs.Choice.{pick, either}
 use Rattle.row.specs.Rows.{rowPlace}
 use Rattle.site.specs.Records.{Written}
 use Rattle.command.specs.declared.Command.the-variants as Command·
@@ -12,7 +13,7 @@ use Rattle.command.specs.declared.Delivery.{Delivery}
 use Rattle.command.specs.Commands.{readCommand, found}
 use Rattle.world.specs.declared.World.{World}
 use Rattle.world.specs.Sizes.{storeBytes}
-use Rattle.header.specs.Headers.{headerOf, headerNumber, headerWorld}
+use Rattle.header.specs.Headers.{headerOf, headerLength, headerNumber, headerWorld}
 use Rattle.play.specs.Run.{Ask, Ran, run, callOf}
 use Rattle.safety.specs.Claims.{Safe, Delivered}
 use Rattle.list.specs.Play.{Play, playList, askAt}
@@ -43,9 +44,13 @@ listRecords store list = run (headerWorld list) store (playList store list .asks
 abbrev pub ListSafe : Type 0
 ListSafe = (store list : List ℕ) → Safe (headerOf list .n) (headerOf list .willing) (listRecords store list)
 
--- every list is played to its end, or stopped at one of 1 to 16: 17 never arises
+-- a number at which a list is stopped: 1 to 16 or 21, and 0 for none; 17 is none of them
+unfoldable pub isStop : ℕ → Bool
+isStop number = either (leb number 16) (eqb number 21)
+
+-- every list is played to its end, or stopped at one of 1 to 16 or at 21: 17 never arises
 pub record Ends (list : List ℕ) (p : Play) : Type 0 where
-  pub in-table : p .played .number ≤ 16
+  pub in-table : isStop (p .played .number) ≡ true
   pub to-the-end : p .played .number ≡ 0 → p .played .place ≡ length list
   pub within : p .played .place ≤ length list
 
@@ -72,7 +77,7 @@ FollowOn w store at (a ∷ b ∷ asks) =
 
 -- a list's calls follow on, from its header's fresh world and the first command's place
 abbrev pub ListFollowsOn : Type 0
-ListFollowsOn = (store list : List ℕ) → FollowOn (headerWorld list) store 5 (playList store list .asks)
+ListFollowsOn = (store list : List ℕ) → FollowOn (headerWorld list) store (headerLength list) (playList store list .asks)
 
 -- a list's world and store after the first calls of its play
 abbrev pub listRun : List ℕ → List ℕ → List Ask → Ran

@@ -1,5 +1,5 @@
--- Playing a whole list: a header of 5 bytes, then commands to the end.
--- Refusals: 16 store; then the header's, 1 to 5.
+-- Playing a whole list: a header of either edition, then commands to the end.
+-- Refusals: 16 store; then the header's, 1 to 5 and 21.
 use Prim.Native.Nat.{ℕ, zero, suc, _+_}
 use mathlib.Core.List.{List, [], _∷_}
 use lib.Dec.{ltb, eqb}
@@ -8,7 +8,7 @@ use Rattle.choice.specs.Choice.{pick}
 use Rattle.world.specs.declared.World.{World}
 use Rattle.world.specs.Sizes.{storeBytes}
 use Rattle.world.specs.Worlds.{zeroWorld}
-use Rattle.header.specs.Headers.{headerNumber, headerWorld}
+use Rattle.header.specs.Headers.{headerLength, headerNumber, headerWorld}
 use Rattle.play.specs.Commands.{oneCommand}
 use Rattle.play.specs.Run.{Ask}
 use Rattle.list.specs.declared.ListPlayed.{ListPlayed}
@@ -53,5 +53,5 @@ refusedList number store = stopped number zeroWorld store 0 0 []
 unfoldable pub playList : List ℕ → List ℕ → Play
 playList store list =
     pick (ltb (length store) storeBytes) (refusedList 16 store)
-    (pick (eqb (headerNumber list) 0) (playFrom (length list) (headerWorld list) store list 5 0)
+    (pick (eqb (headerNumber list) 0) (playFrom (length list) (headerWorld list) store list (headerLength list) 0)
     (refusedList (headerNumber list) store))

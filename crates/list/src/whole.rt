@@ -3,21 +3,21 @@ ghost use mathlib.Core.Path.{_≡_};
 ghost use Prim.Native.Nat.{_≤_};
 ghost use lib.ListN.{length};
 ghost use Rattle.world.specs.Worlds.{zeroWorld};
-ghost use Rattle.header.specs.Headers.{headerNumber, headerWorld};
+ghost use Rattle.header.specs.Headers.{headerLength, headerNumber, headerWorld};
 ghost use Rattle.list.specs.Play.{playList};
 use crate::ListPlayed;
 use header::header_number;
 use header::read_header;
 use world::World;
 
-// The commands from the header's fresh world on. 17 is not asked again of the world; `enter` asks it of the news, where it never arises.
-fn play_commands(fresh: World, store: &mut [u8], list: &[u8]) -> ListPlayed
-    requires { ⌜ (fresh ≡ headerWorld (now list)) × (headerNumber (now list) ≡ 0) × (20480 ≤ length (now store)) ⌝ }
+// The commands after the header, from its fresh world on. 17 is not asked again of the world; `enter` asks it of the news, where it never arises.
+fn play_commands(fresh: World, first: usize, store: &mut [u8], list: &[u8]) -> ListPlayed
+    requires { ⌜ (fresh ≡ headerWorld (now list)) × (first ≡ headerLength (now list)) × (headerNumber (now list) ≡ 0) × (20480 ≤ length (now store)) ⌝ }
     ensures played { λ r. ⌜ r ≡ (playList (now (store .entry)) (now (list .entry))) .played ⌝ }
     ensures stored { λ r. ⌜ now (store .exit) ≡ (playList (now (store .entry)) (now (list .entry))) .store ⌝ }
 {
     let mut world = fresh;
-    let mut at = 5;
+    let mut at = first;
     let mut events = 0;
     while at < list.len() {
         let reading = command::read_command(list, at);
@@ -74,6 +74,7 @@ pub fn play_list(store: &mut [u8], list: &[u8]) -> ListPlayed
     let header = read_header(list);
     let commit = header.commit;
     let abort = header.abort;
-    let fresh = World::fresh(header.n, commit, abort, header.willing);
-    play_commands(fresh, store, list)
+    let weights = header::read_weights(list, header.n);
+    let fresh = World::fresh(header.n, weights, commit, abort, header.willing);
+    play_commands(fresh, header::header_length(list), store, list)
 }

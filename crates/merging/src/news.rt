@@ -4,7 +4,7 @@ ghost use Prim.Native.Nat.{ℕ, _<_, _≤_};
 ghost use lib.ListN.{getD};
 ghost use Rattle.choice.specs.Choice.{pick};
 ghost use Rattle.merging.specs.Merging.{rises};
-ghost use Rattle.choice.specs.laws.Stores.{sumTo};
+ghost use Rattle.choice.specs.Places.{sumTo};
 use crate::entry::top;
 
 // 1 where the level said is higher than the one held.

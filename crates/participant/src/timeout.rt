@@ -15,9 +15,9 @@ use timeouts::timeout_in_commit_group;
 use timeouts::timeout_prepared;
 
 impl Participant {
-    pub fn timeout(mut self, commit: CommitQuorum, abort: AbortQuorum) -> Step
+    pub fn timeout(mut self, weights: [u8; 16], commit: CommitQuorum, abort: AbortQuorum) -> Step
         requires { ⌜ (self .n ≤ 16) × (self .own < self .n) ⌝ }
-        ensures { λ r. ⌜ r ≡ (timeout (self .own) (self .n) commit abort (self .site)) .step ⌝ }
+        ensures { λ r. ⌜ r ≡ (timeout (self .own) (self .n) weights commit abort (self .site)) .step ⌝ }
     {
         let own = self.own;
         let n = self.n;
@@ -26,8 +26,8 @@ impl Participant {
         match state {
             State::Active => silent(site.write_outcome(own, Outcome::Abort, 5)),
             State::Prepared => timeout_prepared(own, n, site),
-            State::CommitGroup => timeout_in_commit_group(own, n, commit, site),
-            State::AbortGroup => timeout_in_abort_group(own, n, abort, site),
+            State::CommitGroup => timeout_in_commit_group(own, n, weights, commit, site),
+            State::AbortGroup => timeout_in_abort_group(own, n, weights, abort, site),
             State::Committed => take_over(6, own, n, site),
             State::Aborted => take_over(6, own, n, site),
         }

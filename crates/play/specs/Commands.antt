@@ -34,7 +34,7 @@ startCall w store at next =
 unfoldable pub timeoutCall : World → List ℕ → ℕ → ℕ → ℕ → Call
 timeoutCall w store at next i =
     pick (ltb i (w .n))
-    (pick (siteOf w i .up) (enter w store at next i (timeout i (w .n) (w .commit) (w .abort) (siteOf w i)))
+    (pick (siteOf w i .up) (enter w store at next i (timeout i (w .n) (w .weights) (w .commit) (w .abort) (siteOf w i)))
     (refuse 12 w store at))
     (refuse 8 w store at)
 

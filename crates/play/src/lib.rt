@@ -27,6 +27,7 @@ pub struct Head {
     pub commit: CommitQuorum,
     pub abort: AbortQuorum,
     pub willing: usize,
+    pub weights: [u8; 16],
     pub rows: usize,
     pub news: usize,
 }

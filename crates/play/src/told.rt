@@ -9,11 +9,13 @@ pub fn head_of(world: World) -> Head
 {
     let commit = world.commit;
     let abort = world.abort;
+    let weights = world.weights;
     Head {
         n: world.n,
         commit,
         abort,
         willing: world.willing,
+        weights,
         rows: world.rows,
         news: world.news,
     }

@@ -1,18 +1,18 @@
--- What the player prints of a play: for 1 to 5 the refusal line alone, otherwise the report.
+-- What the player prints of a play: for 1 to 5 and 21 the refusal line alone, otherwise the report.
 use Prim.Native.Nat.{ℕ}
 use mathlib.Core.Bool.{Bool}
 use mathlib.Core.List.{List}
-use lib.Dec.{leb}
+use lib.Dec.{leb, eqb}
 use lib.ListN.{length}
 use lib.Seq.{sets}
-use Rattle.choice.specs.Choice.{pick, both}
+use Rattle.choice.specs.Choice.{pick, both, either}
 use Rattle.list.specs.declared.ListPlayed.{ListPlayed}
 use Rattle.lines.specs.Lines.{lastLine}
 use Rattle.report.specs.Report.{report}
 
 -- a number of length or header
 unfoldable pub isHeaderNumber : ℕ → Bool
-isHeaderNumber k = both (leb 1 k) (leb k 5)
+isHeaderNumber k = either (eqb k 21) (both (leb 1 k) (leb k 5))
 
 -- the buffer with the text
 unfoldable pub shownBuffer : ListPlayed → List ℕ → List ℕ

@@ -6,16 +6,20 @@ ghost use Rattle.player.specs.Shown.{isHeaderNumber, shownBuffer, shownL
 use list::ListPlayed;
 use word::wide;
 
+// A number of length or header.
 fn is_header_number(number: u8) -> bool
     ensures { λ r. ⌜ r ≡ isHeaderNumber number ⌝ }
 {
+    if number == 21 {
+        return true;
+    }
     if 1 <= number {
         return number <= 5;
     }
     false
 }
 
-// For 1 to 5 the refusal line alone, otherwise the report; its length.
+// For 1 to 5 and 21 the refusal line alone, otherwise the report; its length.
 pub fn show(played: ListPlayed, buffer: &mut [u8]) -> usize
     requires { ⌜ 1024 ≤ length (now buffer) ⌝ }
     ensures { λ r. ⌜ now (buffer .exit) ≡ shownBuffer played (now (buffer .entry)) ⌝ }

@@ -48,7 +48,8 @@ pub fn write_quiet(n: usize, commit: CommitQuorum, abort: AbortQuorum, buffer: &
     if World::SITES < n {
         return Spelled::refused(3, 0);
     }
-    let number = world::sizes_number(n, commit, abort, bits::every_site(n));
+    let weights = weights::even_weights(n);
+    let number = world::sizes_number(n, weights, commit, abort, bits::every_site(n));
     if number != 0 {
         return Spelled::refused(number, 0);
     }

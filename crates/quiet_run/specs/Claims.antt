@@ -3,7 +3,8 @@ use Prim.Native.Nat.{ℕ, _+_, _-_, _*_, _≤_, _<_}
 use mathlib.Core.Bool.{true}
 use mathlib.Core.List.{List, [], _∷_}
 use mathlib.Core.Path.{_≡_}
-use lib.ListN.{length}
+use lib.ListN.{length, drop}
+use Rattle.weights.specs.Weights.{weightOf, totalWeight, largestWeight, evenWeights}
 use Rattle.bits.specs.Bits.{hasBit, everySite}
 use Rattle.row.specs.Rows.{getRow}
 use Rattle.site.specs.declared.Group.the-variants as Group·
@@ -16,18 +17,20 @@ use Rattle.command.specs.declared.Command.{Command}
 use Rattle.world.specs.declared.World.{World}
 use Rattle.world.specs.Sizes.{storeBytes, sizesNumber}
 use Rattle.world.specs.Worlds.{freshWorld, siteOf}
+use Rattle.header.specs.Headers.{headerOf, headerLength, headerNumber}
 use Rattle.play.specs.Run.{Ask, run, callOf}
 use Rattle.safety.specs.Claims.{writtenAt, freshRun}
 use Rattle.list.specs.Play.{playList}
 use Rattle.list.specs.Claims.{listRecords}
 use Rattle.spelling.specs.Spelling.{commandBytes}
+use Rattle.spelling.specs.Script.{spelledBy}
 use Rattle.round_trip.specs.Claims.{output}
-use Rattle.quiet.specs.Quiet.{repliesAfter, repliesAtOnce, quietIn}
+use Rattle.quiet.specs.Quiet.{repliesAfter, repliesAtOnce, quietIn, quiet}
 use Rattle.quiet.specs.QuietList.{quietList, writeQuiet}
 
 -- what a quiet day wants: sizes that the maker accepts, every site willing, a store of enough bytes
-pub record Wanted (n : ℕ) (c : CommitQuorum) (a : AbortQuorum) (willing : ℕ) (store : List ℕ) : Type 0 where
-  pub sizes : sizesNumber n c a willing ≡ 0
+pub record Wanted (n : ℕ) (weights : List ℕ) (c : CommitQuorum) (a : AbortQuorum) (willing : ℕ) (store : List ℕ) : Type 0 where
+  pub sizes : sizesNumber n weights c a willing ≡ 0
   pub all-willing : (j : ℕ) → j < n → hasBit willing j ≡ true
   pub room : storeBytes ≤ length store
 
@@ -87,8 +90,8 @@ pub record QuietCalls (n : ℕ) (w : World) (store : List ℕ) (asks : List Ask)
 -- the quiet day's calls from the maker's world, in an order of deliveries and replies
 abbrev pub QuietIn : (ℕ → ℕ → List Command) → Type 0
 QuietIn order =
-    (n : ℕ) (c : CommitQuorum) (a : AbortQuorum) (willing : ℕ) (store : List ℕ) → Wanted n c a willing store →
-    QuietCalls n (freshWorld n c a willing) store (asksOf (quietIn order n))
+    (n : ℕ) (weights : List ℕ) (c : CommitQuorum) (a : AbortQuorum) (willing : ℕ) (store : List ℕ) → Wanted n weights c a willing store →
+    QuietCalls n (freshWorld n weights c a willing) store (asksOf (quietIn order n))
 
 -- THEOREM 1: with the replies after all deliveries
 abbrev pub QuietRun : Type 0
@@ -101,10 +104,29 @@ QuietAtOnce = QuietIn repliesAtOnce
 -- THEOREM 3: which leaves the same world and store, the same history and the same news
 abbrev pub OrdersAgree : Type 0
 OrdersAgree =
-    (n : ℕ) (c : CommitQuorum) (a : AbortQuorum) (willing : ℕ) (store : List ℕ) → Wanted n c a willing store →
-    freshRun n c a willing store (asksOf (quietIn repliesAfter n)) ≡ freshRun n c a willing store (asksOf (quietIn repliesAtOnce n))
+    (n : ℕ) (weights : List ℕ) (c : CommitQuorum) (a : AbortQuorum) (willing : ℕ) (store : List ℕ) → Wanted n weights c a willing store →
+    freshRun n weights c a willing store (asksOf (quietIn repliesAfter n))
+    ≡ freshRun n weights c a willing store (asksOf (quietIn repliesAtOnce n))
 
--- sizes as document 01 wants them: n from 3 to 16; C and A each at most n - 1, and together at least n + 1
+-- sizes as request (vi) of document 02 wants them: n from 3 to 16; weights of 1 to 255, and 0 from n up; with W their sum and h the largest, C and A each
+-- at most W - h, and together at least W + 1
+pub record LegalWeights (n : ℕ) (weights : List ℕ) (c : CommitQuorum) (a : AbortQuorum) : Type 0 where
+  pub low : 3 ≤ n
+  pub high : n ≤ 16
+  pub some : (i : ℕ) → i < n → 1 ≤ weightOf weights i
+  pub most : (i : ℕ) → i < n → weightOf weights i ≤ 255
+  pub none : (i : ℕ) → n ≤ i → i < 16 → weightOf weights i ≡ 0
+  pub commit : c .0 ≤ totalWeight weights - largestWeight weights
+  pub abort : a .0 ≤ totalWeight weights - largestWeight weights
+  pub together : totalWeight weights + 1 ≤ c .0 + a .0
+
+-- THEOREM 4: every n from 3 to 16, all legal weights and all legal C and A are wanted so, where the willing sites are all sites
+abbrev pub LegalIsWanted : Type 0
+LegalIsWanted =
+    (n : ℕ) (weights : List ℕ) (c : CommitQuorum) (a : AbortQuorum) (store : List ℕ) → LegalWeights n weights c a →
+    storeBytes ≤ length store → Wanted n weights c a (everySite n) store
+
+-- sizes as document 01 wants them, where each site weighs 1: n from 3 to 16; C and A each at most n - 1, and together at least n + 1
 pub record Legal (n : ℕ) (c : CommitQuorum) (a : AbortQuorum) : Type 0 where
   pub low : 3 ≤ n
   pub high : n ≤ 16
@@ -112,28 +134,34 @@ pub record Legal (n : ℕ) (c : CommitQuorum) (a : AbortQuorum) : Type 0 where
   pub abort : a .0 ≤ n - 1
   pub together : n + 1 ≤ c .0 + a .0
 
--- THEOREM 4: every n from 3 to 16 and all legal C and A are wanted so, where the willing sites are all sites
-abbrev pub LegalIsWanted : Type 0
-LegalIsWanted =
-    (n : ℕ) (c : CommitQuorum) (a : AbortQuorum) (store : List ℕ) → Legal n c a → storeBytes ≤ length store →
-    Wanted n c a (everySite n) store
+-- THEOREM 5: so are document 01's sizes
+abbrev pub EvenIsLegal : Type 0
+EvenIsLegal = (n : ℕ) (c : CommitQuorum) (a : AbortQuorum) → Legal n c a → LegalWeights n (evenWeights n) c a
 
--- a list played as a quiet day: to its end, with every command accepted
-pub record QuietlyPlayed (n : ℕ) (store list : List ℕ) : Type 0 where
+-- a list with a header of so many bytes, played as a quiet day: to its end, with every command accepted
+pub record QuietlyPlayed (n header : ℕ) (store list : List ℕ) : Type 0 where
   pub number : playList store list .played .number ≡ 0
   pub events : playList store list .played .events ≡ 3 + 6 * (n - 1)
   pub place : playList store list .played .place ≡ length list
-  pub bytes : length list ≡ 10 + 24 * (n - 1)
+  pub bytes : length list ≡ header + 5 + 24 * (n - 1)
   pub comes-to : Quietly n (playList store list .played .world) (playList store list .store) (listRecords store list)
 
--- THEOREM 5: the quiet day's list, header and all, for every n from 3 to 16 and all legal C and A
+-- THEOREM 6: every list, of either edition, whose length and header are accepted, in which every site is willing and the quiet day's commands follow
+-- the header
+abbrev pub QuietAfterHeader : Type 0
+QuietAfterHeader =
+    (store list : List ℕ) → headerNumber list ≡ 0 → ((j : ℕ) → j < headerOf list .n → hasBit (headerOf list .willing) j ≡ true) →
+    drop (headerLength list) list ≡ spelledBy commandBytes (quiet (headerOf list .n)) → storeBytes ≤ length store →
+    QuietlyPlayed (headerOf list .n) (headerLength list) store list
+
+-- THEOREM 7: the quiet day's list, of the first edition, for every n from 3 to 16 and all legal C and A
 abbrev pub QuietListPlayed : Type 0
 QuietListPlayed =
     (n : ℕ) (c : CommitQuorum) (a : AbortQuorum) (store : List ℕ) → Legal n c a → storeBytes ≤ length store →
-    QuietlyPlayed n store (quietList n c a)
+    QuietlyPlayed n 5 store (quietList n c a)
 
--- THEOREM 6: and so is whatever an accepted call has written as a quiet day's list
+-- THEOREM 8: and so is whatever an accepted call has written as a quiet day's list
 abbrev pub WrittenIsPlayed : Type 0
 WrittenIsPlayed =
     (n : ℕ) (c : CommitQuorum) (a : AbortQuorum) (buffer store : List ℕ) → writeQuiet n c a buffer .answer .number ≡ 0 →
-    storeBytes ≤ length store → QuietlyPlayed n store (output (writeQuiet n c a buffer))
+    storeBytes ≤ length store → QuietlyPlayed n 5 store (output (writeQuiet n c a buffer))

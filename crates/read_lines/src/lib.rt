@@ -46,7 +46,8 @@ fn spelled_number(header: Header, bytes: usize) -> u8
     }
     let commit = header.commit;
     let abort = header.abort;
-    world::sizes_number(header.n, commit, abort, header.willing)
+    let weights = weights::even_weights(header.n);
+    world::sizes_number(header.n, weights, commit, abort, header.willing)
 }
 
 // The header and every command that can be read from a place on, put from the buffer's beginning.

@@ -1,5 +1,5 @@
 -- The site rules: START, TIMEOUT, DELIVER, CRASH and RECOVER. Each gives the next site, the row it sends (kind 0: none), its news (how
--- many entries its merge raised) and the records it writes. `own` is the site's number, n the number of sites.
+-- many entries its merge raised) and the records it writes. `own` is the site's number, n the number of sites; the weights are all sites'.
 use Prim.Native.Nat.{ℕ}
 use mathlib.Core.Bool.{Bool, true, false}
 use mathlib.Core.List.{List, [], _∷_, _++_}
@@ -71,32 +71,32 @@ chooseGroup own n s =
     (commanding 3 own n (joinGroup commit own s) (wrote own (groupRecord commit) ∷ []))
     (commanding 4 own n (joinGroup abort own s) (wrote own (groupRecord abort) ∷ []))
 
--- a coordinator in the commit group: if at least C entries are 2, write commit and send outcome; else send the join again
-unfoldable pub decideCommit : ℕ → ℕ → CommitQuorum → Site → Move
-decideCommit own n c s =
-    pick (commitReached c n (s .codes))
+-- a coordinator in the commit group: if the entries 2 weigh at least C, write commit and send outcome; else send the join again
+unfoldable pub decideCommit : ℕ → ℕ → List ℕ → CommitQuorum → Site → Move
+decideCommit own n weights c s =
+    pick (commitReached c weights n (s .codes))
     (commanding 6 own n (writeOutcome commit own s) (wrote own (outcomeRecord commit) ∷ []))
     (commanding 3 own n s [])
 
 -- a coordinator in the abort group: the same with A, entries 3 and abort
-unfoldable pub decideAbort : ℕ → ℕ → AbortQuorum → Site → Move
-decideAbort own n a s =
-    pick (abortReached a n (s .codes))
+unfoldable pub decideAbort : ℕ → ℕ → List ℕ → AbortQuorum → Site → Move
+decideAbort own n weights a s =
+    pick (abortReached a weights n (s .codes))
     (commanding 6 own n (writeOutcome abort own s) (wrote own (outcomeRecord abort) ∷ []))
     (commanding 4 own n s [])
 
 -- TIMEOUT by state. Active: write abort, send nothing, role unchanged. Terminated: send outcome
-unfoldable pub timeoutIn : State → ℕ → ℕ → CommitQuorum → AbortQuorum → Site → Move
-timeoutIn State·.Active own n c a s = silent (writeOutcome abort own s) (wrote own (outcomeRecord abort) ∷ [])
-timeoutIn State·.Prepared own n c a s = pick (s .coordinator) (chooseGroup own n s) (takeOver 1 own n s)
-timeoutIn State·.CommitGroup own n c a s = pick (s .coordinator) (decideCommit own n c s) (takeOver 3 own n s)
-timeoutIn State·.AbortGroup own n c a s = pick (s .coordinator) (decideAbort own n a s) (takeOver 4 own n s)
-timeoutIn State·.Committed own n c a s = takeOver 6 own n s
-timeoutIn State·.Aborted own n c a s = takeOver 6 own n s
+unfoldable pub timeoutIn : State → ℕ → ℕ → List ℕ → CommitQuorum → AbortQuorum → Site → Move
+timeoutIn State·.Active own n weights c a s = silent (writeOutcome abort own s) (wrote own (outcomeRecord abort) ∷ [])
+timeoutIn State·.Prepared own n weights c a s = pick (s .coordinator) (chooseGroup own n s) (takeOver 1 own n s)
+timeoutIn State·.CommitGroup own n weights c a s = pick (s .coordinator) (decideCommit own n weights c s) (takeOver 3 own n s)
+timeoutIn State·.AbortGroup own n weights c a s = pick (s .coordinator) (decideAbort own n weights a s) (takeOver 4 own n s)
+timeoutIn State·.Committed own n weights c a s = takeOver 6 own n s
+timeoutIn State·.Aborted own n weights c a s = takeOver 6 own n s
 
 -- TIMEOUT
-unfoldable pub timeout : ℕ → ℕ → CommitQuorum → AbortQuorum → Site → Move
-timeout own n c a s = timeoutIn (stateOf s) own n c a s
+unfoldable pub timeout : ℕ → ℕ → List ℕ → CommitQuorum → AbortQuorum → Site → Move
+timeout own n weights c a s = timeoutIn (stateOf s) own n weights c a s
 
 -- DELIVER, first: merge, the sender's entry first; this is the vector that merging gives
 unfoldable pub hear : ℕ → ℕ → Row → Site → Site

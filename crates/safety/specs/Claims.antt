@@ -49,18 +49,18 @@ pub record Safe (n willing : ℕ) (H : List Written) : Type 0 where
   pub one-outcome-at : (j : ℕ) → writtenAt j 4 H + writtenAt j 5 H ≤ 1
 
 -- the run from the maker's world
-abbrev pub freshRun : ℕ → CommitQuorum → AbortQuorum → ℕ → List ℕ → List Ask → Ran
-freshRun n c a willing store asks = run (freshWorld n c a willing) store asks
+abbrev pub freshRun : ℕ → List ℕ → CommitQuorum → AbortQuorum → ℕ → List ℕ → List Ask → Ran
+freshRun n weights c a willing store asks = run (freshWorld n weights c a willing) store asks
 
 -- THEOREM 1: over every list of calls, each with any list bytes and any place, from the maker's world and any store
 abbrev pub Demand3 : Type 0
-Demand3 = (n : ℕ) (c : CommitQuorum) (a : AbortQuorum) (willing : ℕ) (store : List ℕ) (asks : List Ask) → Safe n willing (freshRun n c a willing store asks .records)
+Demand3 = (n : ℕ) (weights : List ℕ) (c : CommitQuorum) (a : AbortQuorum) (willing : ℕ) (store : List ℕ) (asks : List Ask) → Safe n willing (freshRun n weights c a willing store asks .records)
 
 -- sizes that the maker refuses write no record at all
 abbrev pub RefusedSizes : Type 0
 RefusedSizes =
-    (n : ℕ) (c : CommitQuorum) (a : AbortQuorum) (willing : ℕ) (store : List ℕ) (asks : List Ask) →
-    (sizesNumber n c a willing ≡ 0 → ⊥) → freshRun n c a willing store asks .records ≡ []
+    (n : ℕ) (weights : List ℕ) (c : CommitQuorum) (a : AbortQuorum) (willing : ℕ) (store : List ℕ) (asks : List Ask) →
+    (sizesNumber n weights c a willing ≡ 0 → ⊥) → freshRun n weights c a willing store asks .records ≡ []
 
 -- no 4 beside 5 below n
 pub record NoConflict (n : ℕ) (v : List ℕ) : Type 0 where
@@ -79,10 +79,10 @@ pub record Delivered (w : World) (store : List ℕ) (k i : ℕ) : Type 0 where
 -- THEOREM 2: after any list of calls, an accepted delivery finds no conflict, and its join commit no active site
 abbrev pub NeverOccurs : Type 0
 NeverOccurs =
-    (n : ℕ) (c : CommitQuorum) (a : AbortQuorum) (willing : ℕ) (store : List ℕ) (asks : List Ask) (ask : Ask) (d : Delivery) (next : ℕ) →
+    (n : ℕ) (weights : List ℕ) (c : CommitQuorum) (a : AbortQuorum) (willing : ℕ) (store : List ℕ) (asks : List Ask) (ask : Ask) (d : Delivery) (next : ℕ) →
     readCommand (ask .list) (ask .place) ≡ found (Command·.Deliver d) next →
-    callOf (freshRun n c a willing store asks .world) (freshRun n c a willing store asks .store) ask .number ≡ 0 →
-    Delivered (freshRun n c a willing store asks .world) (freshRun n c a willing store asks .store) (d .row) (d .site)
+    callOf (freshRun n weights c a willing store asks .world) (freshRun n weights c a willing store asks .store) ask .number ≡ 0 →
+    Delivered (freshRun n weights c a willing store asks .world) (freshRun n weights c a willing store asks .store) (d .row) (d .site)
 
 -- THEOREM 3: a refused call, of whatever number, changes neither world nor store, writes no record and has no news
 pub record Unchanged (w : World) (store : List ℕ) (r : Call) : Type 0 where
@@ -106,6 +106,7 @@ pub record Kept (w : World) (store : List ℕ) (r : Call) : Type 0 where
   pub same-commit : r .world .commit ≡ w .commit
   pub same-abort : r .world .abort ≡ w .abort
   pub same-willing : r .world .willing ≡ w .willing
+  pub same-weights : r .world .weights ≡ w .weights
   pub rows-grow : w .rows ≤ r .world .rows
   pub rows-by-one : r .world .rows ≤ w .rows + 1
   pub news-added : r .world .news ≡ w .news + r .news
@@ -141,8 +142,8 @@ pub record Passes (w : World) : Type 0 where
 -- THEOREM 5: every world of a run from a fresh world, of sizes that the maker accepts, passes 17
 abbrev pub RunsPass : Type 0
 RunsPass =
-    (n : ℕ) (c : CommitQuorum) (a : AbortQuorum) (willing : ℕ) (store : List ℕ) (asks : List Ask) →
-    sizesNumber n c a willing ≡ 0 → Passes (freshRun n c a willing store asks .world)
+    (n : ℕ) (weights : List ℕ) (c : CommitQuorum) (a : AbortQuorum) (willing : ℕ) (store : List ℕ) (asks : List Ask) →
+    sizesNumber n weights c a willing ≡ 0 → Passes (freshRun n weights c a willing store asks .world)
 
 -- over a run the rows grow, and the store keeps its length and its bytes beyond the last row
 pub record Beyond (w : World) (store : List ℕ) (r : Ran) : Type 0 where
@@ -183,16 +184,16 @@ runOn r asks = run (r .world) (r .store) asks
 -- any calls that follow, no row, whoever sent it and whenever, shows it prepared
 abbrev pub NeverSaysYes : Type 0
 NeverSaysYes =
-    (n : ℕ) (c : CommitQuorum) (a : AbortQuorum) (willing : ℕ) (store : List ℕ) (first rest : List Ask) (j k : ℕ) → j < n →
-    DownEmpty (freshRun n c a willing store first .world) j →
-    k < runOn (freshRun n c a willing store first) rest .world .rows →
-    NoYes j (getRow (runOn (freshRun n c a willing store first) rest .store) k .codes)
+    (n : ℕ) (weights : List ℕ) (c : CommitQuorum) (a : AbortQuorum) (willing : ℕ) (store : List ℕ) (first rest : List Ask) (j k : ℕ) → j < n →
+    DownEmpty (freshRun n weights c a willing store first .world) j →
+    k < runOn (freshRun n weights c a willing store first) rest .world .rows →
+    NoYes j (getRow (runOn (freshRun n weights c a willing store first) rest .store) k .codes)
 
 -- THEOREM 9: over every list of calls from the maker's world, the world's news is the sum of the calls' news
 abbrev pub NewsIsSum : Type 0
 NewsIsSum =
-    (n : ℕ) (c : CommitQuorum) (a : AbortQuorum) (willing : ℕ) (store : List ℕ) (asks : List Ask) →
-    freshRun n c a willing store asks .world .news ≡ freshRun n c a willing store asks .news
+    (n : ℕ) (weights : List ℕ) (c : CommitQuorum) (a : AbortQuorum) (willing : ℕ) (store : List ℕ) (asks : List Ask) →
+    freshRun n weights c a willing store asks .world .news ≡ freshRun n weights c a willing store asks .news
 
 -- how many entries below n, but for site `own`'s, differ between two vectors
 unfoldable pub entriesChanged : ℕ → ℕ → List ℕ → List ℕ → ℕ

@@ -3,7 +3,8 @@ use Prim.Native.Nat.{ℕ}
 use mathlib.Core.Bool.{Bool, true, false}
 use mathlib.Core.List.{List}
 use lib.Dec.{leb}
-use Rattle.vector.specs.Vector.{count}
+use Rattle.weights.specs.Weights.{weightOf}
+use Rattle.vector.specs.Vector.{weigh}
 use Rattle.site.specs.declared.Group.{Group}
 use Rattle.site.specs.declared.Group.the-variants as Group·
 use Rattle.site.specs.declared.Outcome.{Outcome}
@@ -51,10 +52,10 @@ isActive State·.AbortGroup = false
 isActive State·.Committed = false
 isActive State·.Aborted = false
 
--- at least C entries below n are 2: the commit quorum is measured against the commit group alone
-unfoldable pub commitReached : CommitQuorum → ℕ → List ℕ → Bool
-commitReached c n v = leb (c .0) (count n v 2)
+-- the entries below n that are 2 weigh at least C: the commit quorum is measured against the commit group alone
+unfoldable pub commitReached : CommitQuorum → List ℕ → ℕ → List ℕ → Bool
+commitReached c weights n v = leb (c .0) (weigh (weightOf weights) n v 2)
 
--- at least A entries below n are 3
-unfoldable pub abortReached : AbortQuorum → ℕ → List ℕ → Bool
-abortReached a n v = leb (a .0) (count n v 3)
+-- the entries below n that are 3 weigh at least A
+unfoldable pub abortReached : AbortQuorum → List ℕ → ℕ → List ℕ → Bool
+abortReached a weights n v = leb (a .0) (weigh (weightOf weights) n v 3)

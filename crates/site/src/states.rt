@@ -80,19 +80,19 @@ impl Site {
 }
 
 impl CommitQuorum {
-    pub fn reached(self, n: usize, codes: [u8; 16]) -> bool
+    pub fn reached(self, weights: [u8; 16], n: usize, codes: [u8; 16]) -> bool
         requires { ⌜ n ≤ 16 ⌝ }
-        ensures { λ r. ⌜ r ≡ commitReached self n codes ⌝ }
+        ensures { λ r. ⌜ r ≡ commitReached self weights n codes ⌝ }
     {
-        self.0 <= vector::count(n, codes, 2)
+        self.0 <= vector::weigh(n, weights, codes, 2)
     }
 }
 
 impl AbortQuorum {
-    pub fn reached(self, n: usize, codes: [u8; 16]) -> bool
+    pub fn reached(self, weights: [u8; 16], n: usize, codes: [u8; 16]) -> bool
         requires { ⌜ n ≤ 16 ⌝ }
-        ensures { λ r. ⌜ r ≡ abortReached self n codes ⌝ }
+        ensures { λ r. ⌜ r ≡ abortReached self weights n codes ⌝ }
     {
-        self.0 <= vector::count(n, codes, 3)
+        self.0 <= vector::weigh(n, weights, codes, 3)
     }
 }

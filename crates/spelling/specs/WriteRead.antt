@@ -1,4 +1,4 @@
--- Writing a list as lines, and reading lines as a list. Commands are neither played nor checked beyond 6 and 7.
+-- Writing a list as lines, and reading lines as a list, of the first edition: the first byte is n. Commands are neither played nor checked beyond 6 and 7.
 -- The writer's refusals: 1 to 5 at 0; 6 and 7 at the command byte; 20 a buffer shorter than the output, at 0.
 -- The reader's: 19 over the whole text, at the first bad line; 1 and 3 to 5 of the list that it spells, at 0; 20 at 0.
 use Prim.Native.Nat.{ℕ}
@@ -11,7 +11,7 @@ use Rattle.world.specs.Sizes.{listBytes}
 use Rattle.command.specs.declared.Command.{Command}
 use Rattle.command.specs.Commands.{readCommand}
 use Rattle.header.specs.declared.Header.{Header}
-use Rattle.header.specs.Headers.{headerOf, headerSizes, headerNumber}
+use Rattle.header.specs.Headers.{firstHeader, firstSizes, firstNumber}
 use Rattle.spelling.specs.declared.Spelled.{Spelled}
 use Rattle.spelling.specs.declared.HeaderReading.{HeaderReading}
 use Rattle.spelling.specs.declared.HeaderReading.the-variants as HeaderReading·
@@ -44,11 +44,11 @@ linesOf h commands = headerLine h ++ spelledBy commandLine commands
 -- WRITING LINES: list bytes to text
 unfoldable pub writeLines : List ℕ → List ℕ → Output
 writeLines list buffer =
-    pick (eqb (headerNumber list) 0)
+    pick (eqb (firstNumber list) 0)
     (pick (eqb (listScript list .number) 0)
-    (putOut (length list) (linesOf (headerOf list) (listScript list .commands)) buffer)
+    (putOut (length list) (linesOf (firstHeader list) (listScript list .commands)) buffer)
     (refuse (listScript list .number) (listScript list .place) buffer))
-    (refuse (headerNumber list) 0 buffer)
+    (refuse (firstNumber list) 0 buffer)
 
 -- a text's commands after its first line, and a list's bytes
 unfoldable pub textScript : List ℕ → ℕ → Script
@@ -59,7 +59,7 @@ bytesOf h commands = headerBytes h ++ spelledBy commandBytes commands
 
 -- 1, or 3 to 5, of a list of so many bytes with this header
 unfoldable pub spelledNumber : Header → ℕ → ℕ
-spelledNumber h bytes = pick (ltb listBytes bytes) 1 (headerSizes h)
+spelledNumber h bytes = pick (ltb listBytes bytes) 1 (firstSizes h)
 
 -- the list that a text's lines spell, all in their form
 unfoldable pub readList : List ℕ → Header → List Command → List ℕ → Output

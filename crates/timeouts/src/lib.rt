@@ -37,13 +37,19 @@ pub fn timeout_prepared(own: usize, n: usize, site: Site) -> Step
     take_over(1, own, n, site)
 }
 
-pub fn timeout_in_commit_group(own: usize, n: usize, commit: CommitQuorum, site: Site) -> Step
+pub fn timeout_in_commit_group(
+    own: usize,
+    n: usize,
+    weights: [u8; 16],
+    commit: CommitQuorum,
+    site: Site,
+) -> Step
     requires { ⌜ (n ≤ 16) × (own < n) ⌝ }
-    ensures { λ r. ⌜ r ≡ (pick (site .coordinator) (decideCommit own n commit site) (takeOver 3 own n site)) .step ⌝ }
+    ensures { λ r. ⌜ r ≡ (pick (site .coordinator) (decideCommit own n weights commit site) (takeOver 3 own n site)) .step ⌝ }
 {
     if site.coordinator {
         let codes = site.codes;
-        if commit.reached(n, codes) {
+        if commit.reached(weights, n, codes) {
             return commanding(6, own, n, site.write_outcome(own, Outcome::Commit, 4));
         }
         return commanding(3, own, n, site);
@@ -51,13 +57,19 @@ pub fn timeout_in_commit_group(own: usize, n: usize, commit: CommitQuorum, site:
     take_over(3, own, n, site)
 }
 
-pub fn timeout_in_abort_group(own: usize, n: usize, abort: AbortQuorum, site: Site) -> Step
+pub fn timeout_in_abort_group(
+    own: usize,
+    n: usize,
+    weights: [u8; 16],
+    abort: AbortQuorum,
+    site: Site,
+) -> Step
     requires { ⌜ (n ≤ 16) × (own < n) ⌝ }
-    ensures { λ r. ⌜ r ≡ (pick (site .coordinator) (decideAbort own n abort site) (takeOver 4 own n site)) .step ⌝ }
+    ensures { λ r. ⌜ r ≡ (pick (site .coordinator) (decideAbort own n weights abort site) (takeOver 4 own n site)) .step ⌝ }
 {
     if site.coordinator {
         let codes = site.codes;
-        if abort.reached(n, codes) {
+        if abort.reached(weights, n, codes) {
             return commanding(6, own, n, site.write_outcome(own, Outcome::Abort, 5));
         }
         return commanding(4, own, n, site);

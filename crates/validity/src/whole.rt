@@ -15,15 +15,16 @@ use world::sizes_number;
 // Sizes, row count and news.
 pub fn valid_head(
     n: usize,
+    weights: [u8; 16],
     commit: CommitQuorum,
     abort: AbortQuorum,
     willing: usize,
     rows: usize,
     news: usize,
 ) -> bool
-    ensures { λ r. ⌜ r ≡ both (eqb (sizesNumber n commit abort willing) 0) (both (leb rows maxRows) (leb news maxNews)) ⌝ }
+    ensures { λ r. ⌜ r ≡ both (eqb (sizesNumber n weights commit abort willing) 0) (both (leb rows maxRows) (leb news maxNews)) ⌝ }
 {
-    if sizes_number(n, commit, abort, willing) != 0 {
+    if sizes_number(n, weights, commit, abort, willing) != 0 {
         return false;
     }
     if rows <= World::ROWS {
@@ -52,10 +53,12 @@ fn valid_sites(world: World) -> bool
 pub fn valid_world(world: World) -> bool
     ensures { λ r. ⌜ r ≡ validWorld world ⌝ }
 {
+    let weights = world.weights;
     let commit = world.commit;
     let abort = world.abort;
     if valid_head(
         world.n,
+        weights,
         commit,
         abort,
         world.willing,

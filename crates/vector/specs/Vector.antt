@@ -16,13 +16,9 @@ unfoldable pub weigh : (ℕ → ℕ) → ℕ → List ℕ → ℕ → ℕ
 weigh weight zero v code = 0
 weigh weight (suc k) v code = weigh weight k v code + entryWeight (weight k) (getD v k 0) code
 
--- a site weighs 1
-unfoldable pub siteWeight : ℕ → ℕ
-siteWeight k = 1
-
--- how many entries below n are the code
+-- how many entries below n are the code: each weighs 1
 unfoldable pub count : ℕ → List ℕ → ℕ → ℕ
-count n v code = weigh siteWeight n v code
+count n v code = weigh (λ _. 1) n v code
 
 -- the first of two codes that is an outcome, or 0
 unfoldable pub firstOutcome : ℕ → ℕ → ℕ

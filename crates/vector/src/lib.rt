@@ -4,3 +4,4 @@ mod vector;
 
 pub use vector::count;
 pub use vector::lowest_outcome;
+pub use vector::weigh;

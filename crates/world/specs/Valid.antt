@@ -34,5 +34,5 @@ validSites (suc k) w = both (validSites k w) (validSite k (w .n) (siteOf w k))
 -- sizes, row count, news, and the n sites
 unfoldable pub validWorld : World → Bool
 validWorld w =
-    both (eqb (sizesNumber (w .n) (w .commit) (w .abort) (w .willing)) 0)
+    both (eqb (sizesNumber (w .n) (w .weights) (w .commit) (w .abort) (w .willing)) 0)
     (both (leb (w .rows) maxRows) (both (leb (w .news) maxNews) (validSites (w .n) w)))

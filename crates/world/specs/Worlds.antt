@@ -26,6 +26,7 @@ zeroWorld =
       commit = record { 0 = 0 };
       abort = record { 0 = 0 };
       willing = 0;
+      weights = replicate 16 0;
       rows = 0;
       news = 0;
     }
@@ -35,16 +36,17 @@ unfoldable pub freshSites : ℕ → List Site
 freshSites zero = downSites
 freshSites (suc k) = set (freshSites k) k (blankSite true)
 
--- the maker: a fresh world, or the world of zeros for sizes that break 3 to 5
-unfoldable pub freshWorld : ℕ → CommitQuorum → AbortQuorum → ℕ → World
-freshWorld n c a willing =
-    pick (eqb (sizesNumber n c a willing) 0)
+-- the maker: a fresh world, or the world of zeros for sizes that break 3, 21, 4 or 5
+unfoldable pub freshWorld : ℕ → List ℕ → CommitQuorum → AbortQuorum → ℕ → World
+freshWorld n weights c a willing =
+    pick (eqb (sizesNumber n weights c a willing) 0)
     (record {
       sites = freshSites n;
       n = n;
       commit = c;
       abort = a;
       willing = willing;
+      weights = weights;
       rows = 0;
       news = 0;
     })
@@ -66,6 +68,7 @@ withSite i s w =
       commit = w .commit;
       abort = w .abort;
       willing = w .willing;
+      weights = w .weights;
       rows = w .rows;
       news = w .news;
     }
@@ -78,6 +81,7 @@ withRows k w =
       commit = w .commit;
       abort = w .abort;
       willing = w .willing;
+      weights = w .weights;
       rows = k;
       news = w .news;
     }
@@ -90,6 +94,7 @@ withNews k w =
       commit = w .commit;
       abort = w .abort;
       willing = w .willing;
+      weights = w .weights;
       rows = w .rows;
       news = k;
     }

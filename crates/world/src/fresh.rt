@@ -35,16 +35,23 @@ impl World {
             commit: CommitQuorum(0),
             abort: AbortQuorum(0),
             willing: 0,
+            weights: [0; World::SITES],
             rows: 0,
             news: 0,
         }
     }
 
     // A fresh world, or the world of zeros for refused sizes.
-    pub fn fresh(n: usize, commit: CommitQuorum, abort: AbortQuorum, willing: usize) -> World
-        ensures { λ r. ⌜ r ≡ freshWorld n commit abort willing ⌝ }
+    pub fn fresh(
+        n: usize,
+        weights: [u8; 16],
+        commit: CommitQuorum,
+        abort: AbortQuorum,
+        willing: usize,
+    ) -> World
+        ensures { λ r. ⌜ r ≡ freshWorld n weights commit abort willing ⌝ }
     {
-        if sizes_number(n, commit, abort, willing) != 0 {
+        if sizes_number(n, weights, commit, abort, willing) != 0 {
             return World::zero();
         }
         World {
@@ -53,6 +60,7 @@ impl World {
             commit,
             abort,
             willing,
+            weights,
             rows: 0,
             news: 0,
         }

@@ -3,6 +3,7 @@ mod fresh;
 mod parts;
 mod sizes;
 
+pub use sizes::sites_fit;
 pub use sizes::sizes_number;
 
 pub struct World {
@@ -11,6 +12,7 @@ pub struct World {
     pub commit: site::CommitQuorum,
     pub abort: site::AbortQuorum,
     pub willing: usize,
+    pub weights: [u8; World::SITES],
     pub rows: usize,
     pub news: usize,
 }

@@ -23,13 +23,12 @@ use std::time::{Duration, Instant};
 
 use model::calls::{Calls, Model, LINES_RESULT_BYTES, RESULT_BYTES};
 use model::command::list_of;
-use model::generate::{duel, Rng};
+use model::generate::{duel, weighted_duel, Rng};
 use model::layout::{encode, WORLD_BYTES};
 use model::lines::list_spelled;
 use model::quiet;
 use model::row::STORE_BYTES;
-use model::sizes::HEADER_BYTES;
-use model::{play_list, Ask, Command, Replies, Sizes, World};
+use model::{play_list, Ask, Command, Header, Replies, Sizes, World};
 
 use ffi::Library;
 
@@ -98,7 +97,22 @@ fn days() -> Vec<Workload> {
         ),
         ("duel with crashes, 16 sites".into(), duel(16, SEED, 32_768)),
         ("duel with crashes, 3 sites".into(), duel(3, SEED, 32_768)),
+        (
+            "duel with crashes, 16 sites of different weight".into(),
+            weighted_duel(different_weights(), SEED, 32_768),
+        ),
     ]
+}
+
+/// Sixteen sites of 1, 17, 33 and so on to 241, which is 1,936 together; both quorums
+/// as small as can be.
+fn different_weights() -> Sizes {
+    let mut sizes = Sizes::new(16, 969, 968, 0);
+    for (weight, value) in sizes.weights.iter_mut().zip((1..).step_by(16)) {
+        *weight = value;
+    }
+    assert_eq!(sizes.weight(), 1_936);
+    sizes
 }
 
 fn growth() -> Vec<Workload> {
@@ -118,10 +132,11 @@ fn run_list(name: &str, list: &[u8]) -> f64 {
 /// A list's commands, one call each. The bytes begin as those of the fresh
 /// world in each play, and setting them is in both sides' time.
 fn run_commands(name: &str, list: &[u8]) -> f64 {
-    let header = list.first_chunk().expect("a list with a header");
-    let fresh = encode(&World::fresh(Sizes::of_header(*header)));
-    let library = |buffers: &mut Buffers| commands_by(&Library, list, &fresh, buffers);
-    let model = |buffers: &mut Buffers| commands_by(&Model, list, &fresh, buffers);
+    let header = Header::of_list(list).expect("a list with a header");
+    let fresh = encode(&World::fresh(header.sizes));
+    let begin = (header.end, &fresh[..]);
+    let library = |buffers: &mut Buffers| commands_by(&Library, list, begin, buffers);
+    let model = |buffers: &mut Buffers| commands_by(&Model, list, begin, buffers);
     in_turns(name, list.len(), library, model)
 }
 
@@ -197,8 +212,14 @@ fn list_by_model(list: &[u8], buffers: &mut Buffers) -> usize {
     played.events
 }
 
-/// Each command by a call of its own; gives how many there were.
-fn commands_by(side: &impl Calls, list: &[u8], fresh: &[u8], buffers: &mut Buffers) -> usize {
+/// Each command by a call of its own, from the place of the first one and the fresh
+/// world on; gives how many there were.
+fn commands_by(
+    side: &impl Calls,
+    list: &[u8],
+    (first, fresh): (usize, &[u8]),
+    buffers: &mut Buffers,
+) -> usize {
     let Buffers {
         store,
         world,
@@ -206,7 +227,7 @@ fn commands_by(side: &impl Calls, list: &[u8], fresh: &[u8], buffers: &mut Buffe
         ..
     } = buffers;
     world.copy_from_slice(fresh);
-    let (mut at, mut calls) = (HEADER_BYTES, 0);
+    let (mut at, mut calls) = (first, 0);
     while at < list.len() {
         let ask = Ask::new(black_box(list), at);
         let number = side.play_command(black_box(&mut *world), store, ask, result);

@@ -1,13 +1,14 @@
 //! One-command calls, on worlds that a list may never reach.
 
 use super::guide::Guide;
-use super::header::sizes;
+use super::header::beginning;
 use super::rng::Rng;
 use crate::command::{Ask, Command};
-use crate::layout::{encode, CODES, GROUP_CODES, HEAD_BYTES, SITE_BYTES, WORLD_BYTES};
+use crate::layout::{encode, CODES, GROUP_CODES, HEAD_BYTES, SITES_AT, SITE_BYTES};
+use crate::layout::{WEIGHTS, WORLD_BYTES};
 use crate::row::{ROW_BYTES, STORE_BYTES};
 use crate::site::{GroupRecord, Log, Role, Site};
-use crate::sizes::{everyone, MAX_SITES};
+use crate::sizes::{everyone, Sizes, MAX_SITES};
 use crate::state::{Side, State};
 use crate::vector::Vector;
 use crate::world::{World, MAX_NEWS, MAX_ROWS};
@@ -43,7 +44,14 @@ pub fn any(rng: &mut Rng) -> Call {
     if rng.chance(75) {
         world.news = thinkable_news(rng);
     }
-    let (list, at) = command_bytes(rng, &world);
+    let command = match aimed(rng, &mut world) {
+        Some(command) => command,
+        None => any_command(rng, &world),
+    };
+    let (list, at) = command_bytes(rng, command);
+    if rng.chance(8) {
+        misweigh(rng, &mut world.sizes);
+    }
     let mut world = encode(&world);
     if rng.chance(12) {
         damage_world(rng, &mut world);
@@ -64,16 +72,17 @@ pub fn any(rng: &mut Rng) -> Call {
 
 /// A world and store that some list leads to.
 fn reached(rng: &mut Rng) -> (World, Vec<u8>) {
-    let sizes = sizes(rng);
-    let mut guide = Guide::new(sizes, rng.between(5, 600));
+    let beginning = beginning(rng);
+    let mut guide = Guide::new(beginning, rng.between(5, 600));
     guide.wander(rng);
     (guide.world, guide.store)
 }
 
 /// A world that passes the check, whatever its logs and vectors say.
 fn thinkable(rng: &mut Rng) -> (World, Vec<u8>) {
-    let mut world = World::fresh(sizes(rng));
-    let n = world.sizes.n;
+    let (_, sizes) = beginning(rng);
+    let mut world = World::fresh(sizes);
+    let n = sizes.n;
     world.row_count = rng.choose(&[0, 1, 5, 40, MAX_ROWS - 1, MAX_ROWS]);
     for me in 0..n {
         world.sites[me] = thinkable_site(rng, me, n);
@@ -162,11 +171,77 @@ fn thinkable_row(rng: &mut Rng, n: usize) -> [u8; ROW_BYTES] {
     row
 }
 
+/// TIMEOUT of a site in a group, more often where weights differ, with the group's
+/// quorum as much as the site knows of it or one more; none where such a quorum is
+/// not legal.
+fn aimed(rng: &mut Rng, world: &mut World) -> Option<Command> {
+    let sizes = world.sizes;
+    let joined = |&me: &usize| matches!(world.sites[me].state(), State::InGroup(_));
+    let me = rng.pick((0..sizes.n).filter(joined))?;
+    let mut site = world.sites[me];
+    let state @ State::InGroup(side) = site.state() else {
+        return None;
+    };
+    if rng.chance(40) {
+        join_light(&sizes, &mut site.vector, (me, state));
+    }
+    let known = site.vector.weigh(state, &sizes.weights);
+    let aimed = aimed_at(&sizes, side, known + rng.below(2));
+    let percent = if sizes.weight() > sizes.n { 45 } else { 8 };
+    let is_aimed = rng.chance(percent) && aimed.check().is_ok();
+    is_aimed.then(|| {
+        world.sizes = aimed;
+        (site.up, site.role) = (true, Role::Coordinator);
+        world.sites[me] = site;
+        Command::Timeout(me)
+    })
+}
+
+/// Of the other sites those that are lighter than the middle are in the group too,
+/// as far as this one knows.
+fn join_light(sizes: &Sizes, known: &mut Vector, (me, joined): (usize, State)) {
+    let is_light = |site: usize| usize::from(sizes.weights[site]) * sizes.n < sizes.weight();
+    for site in (0..sizes.n).filter(|&site| site != me) {
+        let state = if is_light(site) {
+            joined
+        } else {
+            State::Prepared
+        };
+        known.set(site, state);
+    }
+}
+
+/// Sizes with this quorum for one side, and the least that meets it for the other.
+fn aimed_at(sizes: &Sizes, side: Side, quorum: usize) -> Sizes {
+    let other = (sizes.weight() + 1).saturating_sub(quorum);
+    let (commit_quorum, abort_quorum) = match side {
+        Side::Commit => (quorum, other),
+        Side::Abort => (other, quorum),
+    };
+    Sizes {
+        commit_quorum,
+        abort_quorum,
+        ..*sizes
+    }
+}
+
+/// Makes a weight wrong, or a quorum for the weights there are.
+fn misweigh(rng: &mut Rng, sizes: &mut Sizes) {
+    let past = sizes.weight() - sizes.heaviest() + 1;
+    match rng.below(5) {
+        0 => sizes.weights[rng.below(sizes.n)] = 0,
+        1 => sizes.weights[rng.between(sizes.n, MAX_SITES).min(15)] ^= rng.choose(&[1, 128, 255]),
+        2 => sizes.commit_quorum = rng.choose(&[past, sizes.weight()]),
+        3 => sizes.abort_quorum = rng.choose(&[past, sizes.weight()]),
+        _ => sizes.abort_quorum = sizes.weight() - sizes.commit_quorum,
+    }
+}
+
 /// A command somewhere in a list, and its place.
-fn command_bytes(rng: &mut Rng, world: &World) -> (Vec<u8>, usize) {
+fn command_bytes(rng: &mut Rng, command: Command) -> (Vec<u8>, usize) {
     let at = rng.choose(&[0, 0, 5, 77]);
     let mut list = rng.bytes(at);
-    list.extend(any_command(rng, world).bytes());
+    list.extend(command.bytes());
     if rng.chance(2) {
         list[at] = rng.choose(&[0, 6, 255]);
     }
@@ -209,11 +284,13 @@ fn below_or_at(rng: &mut Rng, bound: usize) -> usize {
     }
 }
 
-/// One byte changed: in the head, or at a site that takes part or does not.
+/// One byte changed: in the head, a weight, or at a site that takes part or does
+/// not.
 fn damage_world(rng: &mut Rng, world: &mut [u8; WORLD_BYTES]) {
-    let site = HEAD_BYTES + SITE_BYTES * rng.below(MAX_SITES);
-    let place = match rng.below(10) {
+    let site = SITES_AT + SITE_BYTES * rng.below(MAX_SITES);
+    let place = match rng.below(11) {
         0..=2 => rng.below(HEAD_BYTES),
+        10 => WEIGHTS.start + rng.below(MAX_SITES),
         3..=4 => site + rng.below(CODES.start),
         5..=6 => site + GROUP_CODES.start + rng.below(MAX_SITES),
         _ => site + CODES.start + rng.below(MAX_SITES),

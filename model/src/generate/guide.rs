@@ -1,11 +1,11 @@
 //! A list that grows along a world, so that its commands are accepted.
 
+use super::header::Beginning;
 use super::rng::Rng;
 use crate::command::{Ask, Command};
 use crate::play::play_command;
 use crate::row::{Row, STORE_BYTES};
 use crate::site::Site;
-use crate::sizes::Sizes;
 use crate::state::{Side, State};
 use crate::world::{World, MAX_ROWS};
 
@@ -90,9 +90,9 @@ pub struct Guide {
 }
 
 impl Guide {
-    pub fn new(sizes: Sizes, limit: usize) -> Guide {
+    pub fn new((edition, sizes): Beginning, limit: usize) -> Guide {
         Guide {
-            list: sizes.header().to_vec(),
+            list: edition.header(&sizes),
             world: World::fresh(sizes),
             store: vec![0; STORE_BYTES],
             limit,
@@ -486,7 +486,8 @@ impl Guide {
 /// No outcome is written and no site knows of a quorum.
 fn is_undecided(world: &World) -> bool {
     let falls_short = |site: &Site, side| {
-        let known = site.vector.count(State::InGroup(side));
+        let joined = State::InGroup(side);
+        let known = site.vector.weigh(joined, &world.sizes.weights);
         known < world.sizes.quorum(side)
     };
     world.members().iter().all(|site| {

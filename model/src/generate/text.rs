@@ -4,8 +4,9 @@ use std::ops::Range;
 
 use super::rng::Rng;
 use super::unplayed::{any_sizes, commands, odd_sizes};
+use crate::header::HEADER_BYTES;
 use crate::lines::{first_line, push_line};
-use crate::sizes::{HEADER_BYTES, MAX_LIST};
+use crate::sizes::MAX_LIST;
 
 /// Bytes that matter in a text, and some that never should be there.
 const BYTES: &[u8] = b"\n\n\r\t\0   00129/:+-.,aeistAZ\x0b\x1f\x7f\x80\xa0\xff";

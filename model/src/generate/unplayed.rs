@@ -1,9 +1,10 @@
 //! Lists that are written and read as lines, not played: any operands go.
 
-use super::header::sizes;
+use super::header::plain;
 use super::rng::Rng;
 use crate::command::{list_of, Command};
-use crate::sizes::{Sizes, HEADER_BYTES};
+use crate::header::HEADER_BYTES;
+use crate::sizes::Sizes;
 
 /// Bytes of the longest command.
 const COMMAND_BYTES: usize = 4;
@@ -23,13 +24,13 @@ pub fn any_sizes(rng: &mut Rng) -> Sizes {
     if rng.chance(20) {
         odd_sizes(rng)
     } else {
-        sizes(rng)
+        plain(rng)
     }
 }
 
 /// Sizes of which one number or all are anything.
 pub fn odd_sizes(rng: &mut Rng) -> Sizes {
-    let mut sizes = sizes(rng);
+    let mut sizes = plain(rng);
     match rng.below(5) {
         0 => sizes.n = byte(rng),
         1 => sizes.commit_quorum = byte(rng),

@@ -2,6 +2,7 @@
 
 use super::Refusal;
 use crate::command::Command;
+use crate::header::{Edition, Header};
 use crate::number;
 use crate::sizes::Sizes;
 
@@ -16,7 +17,7 @@ const MOST_DIGITS: usize = 5;
 /// not played.
 pub fn list_spelled(text: &[u8]) -> Result<Vec<u8>, Refusal> {
     let list = spelled(text)?;
-    Sizes::of_list(&list).map_err(Refusal::at_start)?;
+    Header::of_first_edition(&list).map_err(Refusal::at_start)?;
     Ok(list)
 }
 
@@ -30,7 +31,7 @@ fn spelled(text: &[u8]) -> Result<Vec<u8>, Refusal> {
     let mut lines = text.split_inclusive(|&byte| byte == b'\n');
     let first = lines.next().unwrap_or_default();
     let sizes = sizes_of(first).ok_or(bad_line(0))?;
-    let mut list = sizes.header().to_vec();
+    let mut list = Edition::First.header(&sizes);
     let mut place = first.len();
     for line in lines {
         command_of(line).ok_or(bad_line(place))?.push(&mut list);

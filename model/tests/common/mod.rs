@@ -6,8 +6,12 @@ pub mod bad_lines;
 pub mod bad_lists;
 pub mod quiet;
 
+use model::calls::{Calls, Model, RESULT_BYTES};
 use model::command::list_of;
+use model::layout::WORLD_BYTES;
+use model::row::STORE_BYTES;
 use model::sizes::everyone;
+use model::{Ask, Numbers};
 use model::{Command, GroupRecord, Kind, Log, Role, Row, Side, Site, Sizes, State, Vector, World};
 
 use Command::{Crash, Recover, Start, Timeout};
@@ -66,6 +70,14 @@ pub fn three_sites(willing: u16) -> Sizes {
 /// So many sites, all willing; abort takes two of them, commit all but one.
 pub fn all_willing(n: usize) -> Sizes {
     Sizes::new(n, n - 1, 2, everyone(n))
+}
+
+/// Sites of these weights, all willing.
+pub fn weighted(weights: &[u8], commit_quorum: usize, abort_quorum: usize) -> Sizes {
+    let n = weights.len();
+    let mut sizes = Sizes::new(n, commit_quorum, abort_quorum, everyone(n));
+    sizes.weights[..n].copy_from_slice(weights);
+    sizes
 }
 
 /// A list of three sites with these willing bits and commands.
@@ -137,7 +149,7 @@ pub fn world_with(
 
 /// The world whose report is the longest.
 pub fn widest() -> World {
-    let mut world = World::fresh(Sizes::new(16, 15, 15, u16::MAX));
+    let mut world = World::fresh(weighted(&[255; 16], 3825, 3825));
     world.row_count = 1024;
     world.news = 491_520;
     for (me, site) in world.sites.iter_mut().enumerate() {
@@ -148,4 +160,18 @@ pub fn widest() -> World {
         site.log.group = group(Side::Commit, site.vector.codes());
     }
     world
+}
+
+/// The numbers of a crash of site 2 and of a report, for a world in bytes.
+pub fn numbers_of(world: &mut [u8; WORLD_BYTES]) -> (u32, u32) {
+    let mut result = [0; RESULT_BYTES];
+    let numbers = Numbers {
+        events: 0,
+        stop: 0,
+        place: 0,
+    };
+    let reported = Model.report(world, numbers, &mut [0; 1024], &mut result);
+    let ask = Ask::new(&[4, 2], 0);
+    let played = Model.play_command(world, &mut [0; STORE_BYTES], ask, &mut result);
+    (played, reported)
 }

@@ -5,11 +5,11 @@ use std::collections::BTreeMap;
 use model::calls::{Calls, RESULT_BYTES};
 use model::generate::Call;
 use model::layout::{encode, WORLD_BYTES};
-use model::meeting::{is_over_limit, meetings, Meeting};
+use model::meeting::{is_over_limit, meetings, misweighed, Meeting};
+use model::opening::{openings, Opening};
 use model::row::{ROW_BYTES, STORE_BYTES};
-use model::sizes::HEADER_BYTES;
 use model::tally::{Day, Tally};
-use model::{number, Ask, Numbers, Sizes, World};
+use model::{number, Ask, Header, Numbers, World};
 
 /// The number that both sides gave, or what differs.
 pub type Agreed = Result<u32, String>;
@@ -34,19 +34,20 @@ const REPORTED: [&str; 2] = ["buffer", "result"];
 
 /// The numbers at which a list is not begun: the world of zeros, no events and
 /// place 0 are written then.
-const NOTHING_PLAYED: [u8; 6] = [
+const NOTHING_PLAYED: [u8; 7] = [
     number::STORE,
     number::LIST_LONG,
     number::LIST_SHORT,
     number::SITES,
     number::QUORUMS,
     number::WILLING,
+    number::WEIGHT,
 ];
 
 /// The world of zeros as bytes: the layout's number, and nothing else.
 const ZEROS: [u8; WORLD_BYTES] = {
     let mut bytes = [0; WORLD_BYTES];
-    bytes[0] = 2;
+    bytes[0] = 3;
     bytes
 };
 
@@ -62,10 +63,16 @@ pub struct Comparer<'a> {
     pub numbers: BTreeMap<u32, usize>,
     /// How often each directed clause was hit.
     pub clauses: BTreeMap<&'static str, usize>,
-    /// How often a generated call met each thing about the news and the sender.
+    /// How often a generated call met each thing about the news, the sender and the
+    /// weights.
     pub meetings: BTreeMap<Meeting, usize>,
     /// Generated reports that were refused for the news alone.
     pub over_limit: usize,
+    /// How often a list's header was each thing.
+    pub openings: BTreeMap<Opening, usize>,
+    /// How often a generated report was refused for each thing about the weights
+    /// alone.
+    pub misweighed: BTreeMap<Meeting, usize>,
     /// What the lists led to that were played on the usual buffers.
     pub tally: Tally,
     /// The same for the longer ones alone.
@@ -85,6 +92,8 @@ impl<'a> Comparer<'a> {
             clauses: BTreeMap::new(),
             meetings: BTreeMap::new(),
             over_limit: 0,
+            openings: BTreeMap::new(),
+            misweighed: BTreeMap::new(),
             tally: Tally::default(),
             longer: Tally::default(),
             lists: 0,
@@ -100,6 +109,9 @@ impl<'a> Comparer<'a> {
         let day = Day::watch(list);
         if number != u32::from(day.played.number) {
             return Err(format!("list {} watched differs\n", hex(list)));
+        }
+        for opening in openings(list) {
+            *self.openings.entry(opening).or_default() += 1;
         }
         self.tally.add(list, &day);
         if day.played.place > LONGER {
@@ -181,7 +193,7 @@ impl<'a> Comparer<'a> {
         Ok(self.count(number))
     }
 
-    /// A generated call, with an eye on its news and its sender.
+    /// A generated call, with an eye on its news, its sender and the weights.
     pub fn call(&mut self, call: &Call) -> Agreed {
         let number = self.command(&call.world, &call.store, call.ask(), RESULT_BYTES)?;
         for meeting in meetings(call, number) {
@@ -203,10 +215,12 @@ impl<'a> Comparer<'a> {
         mut look: impl FnMut(Ask, &[u8]),
     ) -> Result<[Vec<u8>; 2], String> {
         let mut end = [self.pattern(STORE_BYTES), vec![0; WORLD_BYTES], vec![0; 8]];
-        let mut held = [end[0].clone(), fresh(list), vec![0; 8]];
+        let header = Header::of_list(list).expect("a list with a header");
+        let fresh = encode(&World::fresh(header.sizes)).to_vec();
+        let mut held = [end[0].clone(), fresh, vec![0; 8]];
         let [store, world, result] = &mut end;
         let number = self.library.play_list(list, store, world, result);
-        let (mut place, mut events, mut stop) = (HEADER_BYTES, 0, 0);
+        let (mut place, mut events, mut stop) = (header.end, 0, 0);
         while place < list.len() && stop == 0 {
             let ask = Ask::new(list, place);
             let agreed = self.command(&held[1], &held[0], ask, RESULT_BYTES)?;
@@ -259,11 +273,17 @@ impl<'a> Comparer<'a> {
         Ok(self.count(number))
     }
 
-    /// A report of a generated call's world, with an eye on its news.
+    /// A report of a generated call's world, with an eye on its news and weights.
     pub fn report_of(&mut self, call: &Call, numbers: Numbers, buffer_size: usize) -> Agreed {
         let number = self.report(&call.world, numbers, buffer_size, RESULT_BYTES)?;
-        let is_for_news = numbers.stop <= number::LAST.into() && is_over_limit(&call.world);
-        self.over_limit += usize::from(is_for_news);
+        if numbers.stop > number::LAST.into() {
+            return Ok(number);
+        }
+        self.over_limit += usize::from(is_over_limit(&call.world));
+        let met = misweighed(&call.world).into_iter();
+        for (meeting, _) in met.filter(|&(_, is_met)| is_met) {
+            *self.misweighed.entry(meeting).or_default() += 1;
+        }
         Ok(number)
     }
 
@@ -289,12 +309,6 @@ impl<'a> Comparer<'a> {
 /// Bytes that are not the same from call to call, if the salt is not.
 pub fn pattern(size: usize, salt: usize) -> Vec<u8> {
     (0..size).map(|at| (at * 7 + salt * 13 + 1) as u8).collect()
-}
-
-/// The fresh world of a list's header, as bytes.
-fn fresh(list: &[u8]) -> Vec<u8> {
-    let header = list.first_chunk().expect("a list with a header");
-    encode(&World::fresh(Sizes::of_header(*header))).to_vec()
 }
 
 /// A number with its low byte first.

@@ -1,15 +1,18 @@
 //! Copies of the model with one fault each: the comparison has to see it.
 
 mod merging;
+mod weighing;
+
+pub use weighing::WEIGHT_FAULTS;
 
 use model::calls::{Model, Rules};
 use model::meeting::Delivery;
-use model::play::play_command;
+use model::play::{play_command, play_list_by};
 use model::row::ROW_BYTES;
 use model::sizes::everyone;
 use model::world::{MAX_NEWS, MAX_ROWS};
-use model::{number, Ask, Command, GroupRecord, Kind, Log, Numbers};
-use model::{Row, Side, Site, State, World};
+use model::{number, Ask, Command, GroupRecord, Header, Kind, Log, Numbers};
+use model::{Played, Row, Side, Site, State, World};
 
 #[derive(Clone, Copy, Debug, PartialEq, Eq)]
 pub enum Fault {
@@ -68,6 +71,62 @@ pub enum Fault {
     TakesOwnAsSender,
     /// The sender's outcome is written and not the lowest site's.
     LetsSenderDecide,
+    /// The commit group's entries are counted and not weighed.
+    CountsCommitEntries,
+    /// The abort group's are.
+    CountsAbortEntries,
+    /// Of a group's weight only the low byte is kept.
+    WrapsWeight,
+    /// A group must weigh more than its quorum.
+    NeedsMoreWeight,
+    /// A group that weighs one less than its quorum has it.
+    NeedsLessWeight,
+    /// A quorum may need the heaviest site.
+    ForgetsHeaviest,
+    /// Quorums that just meet are refused.
+    RefusesLeastQuorums,
+    /// Quorums that just do not meet pass.
+    PassesApartQuorums,
+    /// 21 comes before the 2 of a header that is cut.
+    AsksWeightBeforeCut,
+    /// The 2 of a header that is cut comes before 3.
+    AsksCutBeforeSites,
+    /// In the second edition 3 comes before the 2 of a list under 5 bytes.
+    AsksSitesBeforeLength,
+    /// 4 comes before 21.
+    AsksQuorumsBeforeWeight,
+    /// 5 comes before 4.
+    AsksWillingBeforeQuorums,
+    /// A header with a weight of 0 passes.
+    PassesNoWeight,
+    /// A weight of 255 is refused.
+    FearsMostWeight,
+    /// Of a commit quorum only the low byte is read.
+    LosesHighOfCommit,
+    /// Of an abort quorum.
+    LosesHighOfAbort,
+    /// 131 and 132 begin a list of the second edition too.
+    TakesLaterEditions,
+    /// The first command is at place 5 in both editions.
+    BeginsAtFive,
+    /// The last site of a first-edition list weighs 2.
+    WeighsFirstEdition,
+    /// Each site of a world handed in weighs 1.
+    ReadsNoWeights,
+    /// A weight from n up of a world handed in is not looked at.
+    PassesFarWeight,
+    /// A world handed in may have a site that weighs nothing.
+    PassesNoWeightInWorld,
+    /// The world that a list leads to has no weights.
+    WritesNoWeights,
+    /// A list that is refused with 21 leaves weights in the world of zeros.
+    LeavesRefusedWeights,
+    /// A report of a stop by 21 is refused with 17.
+    FearsWeightNumber,
+    /// A report of a stop by 22 is written.
+    PassesNextNumber,
+    /// A report shows the low bytes of the quorums.
+    PrintsLowBytes,
 }
 
 /// Those of taking the sender's entry first.
@@ -105,12 +164,30 @@ const OTHERS: [Fault; 21] = [
 
 /// Every fault there is.
 pub fn faults() -> impl Iterator<Item = Fault> {
-    OTHERS.into_iter().chain(SENDER_FAULTS)
+    let others = OTHERS.into_iter().chain(SENDER_FAULTS);
+    others.chain(WEIGHT_FAULTS)
 }
 
 pub struct Faulty(pub Fault);
 
 impl Rules for Faulty {
+    fn header(&self, list: &[u8]) -> Result<Header, u8> {
+        self.0.header(list)
+    }
+
+    fn world(&self, bytes: &[u8]) -> Result<World, u8> {
+        self.0.world(bytes)
+    }
+
+    fn list(&self, store: &mut [u8], list: &[u8]) -> Played {
+        let read = |list: &[u8]| self.header(list);
+        let mut played = play_list_by(store, list, read, |world, store, ask| {
+            self.command(world, store, ask)
+        });
+        self.0.spoil_world(played.number, &mut played.world);
+        played
+    }
+
     fn command(&self, world: &mut World, store: &mut [u8], ask: Ask) -> Result<usize, u8> {
         let before = *world;
         let told = Delivery::of(world, store, ask);
@@ -129,11 +206,17 @@ impl Rules for Faulty {
     fn text(&self, world: &World, numbers: Numbers, buffer: &mut [u8]) -> Result<usize, u8> {
         let is_refused = match self.0 {
             Fault::FearsMuchNews => world.news == MAX_NEWS,
-            Fault::FearsLineNumbers => numbers.stop > number::BUFFER.into(),
+            Fault::FearsLineNumbers => {
+                (number::LINE..=number::ROOM).any(|stop| numbers.stop == stop.into())
+            }
+            Fault::FearsWeightNumber => numbers.stop == number::WEIGHT.into(),
             _ => false,
         };
         if is_refused {
             return Err(number::WORLD);
+        }
+        if let Some(size) = self.0.text(world, numbers, buffer) {
+            return Ok(size);
         }
         let size = Model.text(world, numbers, buffer)?;
         if self.0 == Fault::WritesPastText {
@@ -213,7 +296,7 @@ impl Faulty {
         match self.0 {
             Fault::CountsAllEntries => count_all(before, world, store, me),
             Fault::TakesThreeForPrepare => take_for_prepares(before, world, store, me),
-            _ => {}
+            fault => fault.weigh_again(before, world, store, me),
         }
     }
 

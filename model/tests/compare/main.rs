@@ -21,13 +21,14 @@ use model::calls::{Calls, Model, RESULT_BYTES};
 use model::generate::Generator;
 use model::layout::{encode, WORLD_BYTES};
 use model::meeting::Meeting;
+use model::opening::Opening;
 use model::row::STORE_BYTES;
 use model::tally::Sight;
 use model::{number, play_list, Numbers};
 
 use common::{M3_LIST, M3_REPORT};
 use comparer::Comparer;
-use faults::{faults, Fault, Faulty, SENDER_FAULTS};
+use faults::{faults, Fault, Faulty, SENDER_FAULTS, WEIGHT_FAULTS};
 use ffi::Library;
 
 const SEED: u64 = 20_261_115;
@@ -180,13 +181,82 @@ const SENDERS: &[&str] = &[
     "0 sender: any of sixteen",
 ];
 
-/// How often the generated calls must have met each thing about the news and the
-/// sender, and the generated reports news over the limit.
+/// What document 02 says of sites of different weight: the clauses of the second
+/// edition's header and their order, those of 17, and quorums that are weighed. Each
+/// must be hit by a call made by hand for it.
+const WEIGHTS: &[&str] = &[
+    "0 first edition, ones",
+    "0 second edition",
+    "0 second edition, ones",
+    "0 C of W - h",
+    "0 C + A of W + 1",
+    "0 weights of 255",
+    "0 W of 4,080",
+    "0 unwilling, second edition",
+    "1 second edition",
+    "1 before 21",
+    "2 under 5, second edition",
+    "3 n, second edition",
+    "3 before 2 of a cut header",
+    "3 before 21",
+    "3 a later edition",
+    "2 header cut",
+    "2 before 21",
+    "2 before 4",
+    "2 before 5",
+    "21 weight of 0",
+    "21 before 4",
+    "21 before 5",
+    "4 C over W - h",
+    "4 A over W - h",
+    "4 C + A under W + 1",
+    "4 high byte of C",
+    "4 high byte of A",
+    "4 one heavy site",
+    "4 before 5, second edition",
+    "5 willing, second edition",
+    "6 the longest of the second edition",
+    "8 the first command after the weights",
+    "0 day of two heavy sites",
+    "0 day of two light sites",
+    "0 day of ones",
+    "0 day of 255s",
+    "17 weight of 0",
+    "17 weight from n up not 0",
+    "17 C over W - h",
+    "17 A over W - h",
+    "17 C + A under W + 1",
+    "17 no quorum without the heaviest",
+    "0 weighted quorums as large as can be",
+    "0 weighted quorums that just meet",
+    "0 weighed: two of five commit",
+    "0 weighed: two of five abort",
+    "0 weighed: three of five do not commit",
+    "0 weighed: three of five do not abort",
+    "0 weighed: just enough",
+    "0 weighed: others' entries",
+    "0 weighed: all",
+    "0 weighed: sixteen, just enough",
+    "0 weighed: sixteen, one short",
+];
+
+/// The clauses of 17 about the weights, which the generated reports must meet too.
+const MISWEIGHED: [Meeting; 5] = [
+    Meeting::ZeroWeight,
+    Meeting::FarWeight,
+    Meeting::LargeCommit,
+    Meeting::LargeAbort,
+    Meeting::NotMeeting,
+];
+
+/// How often the generated calls must have met each thing about the news, the sender
+/// and the weights, the lists each sort of header, and the generated reports news
+/// over the limit; half as often those must have met each thing about the weights.
 const LEAST_MET: usize = 100;
 
 /// The least that is asked for of the lists compared: in how many of a hundred
 /// each sight is had, and in how many of a hundred of the longer lists.
-const LEAST: [(Sight, usize, usize); 13] = [
+const LEAST: [(Sight, usize, usize); 15] = [
     (Sight::Repeat, 30, 90),
     (Sight::IdleDelivery, 30, 90),
     (Sight::MuchNews, 30, 90),
@@ -198,6 +268,8 @@ const LEAST: [(Sight, usize, usize); 13] = [
     (Sight::BothGroups, 4, 30),
     (Sight::CommitQuorum, 15, 20),
     (Sight::AbortQuorum, 4, 30),
+    (Sight::ByWeightAlone, 4, 10),
+    (Sight::TooLight, 0, 3),
     (Sight::ThreesForPrepares, 1, 1),
     (Sight::Restart, 5, 4),
 ];
@@ -208,14 +280,16 @@ fn compare(both: &mut Comparer, amount: &Amount) -> Result<(), String> {
     generated(both, amount)
 }
 
+/// The calls that take longest come last, so that a fault is seen before them.
 fn made_by_hand(both: &mut Comparer) -> Result<(), String> {
     directed::lists(both)?;
+    directed::weights(both)?;
     directed::worlds(both)?;
-    directed::every_byte(both)?;
     directed::commands(both)?;
     directed::news(both)?;
     directed::senders(both)?;
-    directed::reports(both)
+    directed::reports(both)?;
+    directed::every_byte(both)
 }
 
 fn generated(both: &mut Comparer, amount: &Amount) -> Result<(), String> {
@@ -232,7 +306,7 @@ fn generated_lists(both: &mut Comparer, mut from: Generator, count: usize) -> Re
     for at in 0..count {
         let list = from.next_list();
         let number = both.list(&list)?;
-        if at % 50 == 0 && list.len() < 400 && (number == 0 || number > 5) {
+        if at % 50 == 0 && list.len() < 400 && !number::is_of_header(number as u8) {
             both.walk(&list)?;
         }
     }
@@ -258,7 +332,7 @@ fn generated_reports(both: &mut Comparer, count: usize) -> Result<(), String> {
         let size = 1_022 + at % 5;
         both.report(&encode(&played.world), numbers, size, RESULT_BYTES)?;
         if at % 4 == 0 {
-            let stop = at as u32 / 4 % 23;
+            let stop = at as u32 / 4 % 24;
             let numbers = Numbers { stop, ..numbers };
             both.report_of(&from.next_call(), numbers, size)?;
         }
@@ -273,6 +347,8 @@ fn print(both: &Comparer) {
     println!("longer: {}", both.longer);
     println!("calls that met: {:?}", both.meetings);
     println!("reports of too much news: {}", both.over_limit);
+    println!("headers: {:?}", both.openings);
+    println!("reports that met: {:?}", both.misweighed);
     for (number, count) in &both.numbers {
         println!("number {number:2} seen {count:8}");
     }
@@ -299,18 +375,20 @@ fn library_and_model_agree() {
     assert_hit(&both);
     assert_rich(&both);
     assert_met(&both);
+    assert_opened(&both);
+    assert_misweighed(&both);
 }
 
 /// Every number is seen, but for those of lines, which come after these.
 fn assert_seen(both: &Comparer) {
-    for number in 0..=number::BUFFER.into() {
+    for number in (0..=number::BUFFER.into()).chain([number::WEIGHT.into()]) {
         assert!(both.numbers.contains_key(&number), "{number} never seen");
     }
 }
 
 /// Every clause is hit.
 fn assert_hit(both: &Comparer) {
-    for name in [CLAUSES, RECOVERIES, NEWS, SENDERS].concat() {
+    for name in [CLAUSES, RECOVERIES, NEWS, SENDERS, WEIGHTS].concat() {
         assert!(both.clauses.contains_key(name), "{name} never hit");
     }
 }
@@ -326,13 +404,30 @@ fn assert_rich(both: &Comparer) {
     }
 }
 
-/// The generated calls and reports met all there is about the news and the sender.
+/// The generated calls met all there is about the news, the sender and the weights,
+/// and the reports news over the limit.
 fn assert_met(both: &Comparer) {
     for meeting in Meeting::ALL {
         let count = both.meetings.get(&meeting).copied().unwrap_or(0);
         assert!(count >= LEAST_MET, "{meeting:?} is rare");
     }
     assert!(both.over_limit >= LEAST_MET);
+}
+
+/// The lists began in every way.
+fn assert_opened(both: &Comparer) {
+    for opening in Opening::ALL {
+        let count = both.openings.get(&opening).copied().unwrap_or(0);
+        assert!(count >= LEAST_MET, "{opening:?} is rare");
+    }
+}
+
+/// The generated reports met all that is wrong with weights.
+fn assert_misweighed(both: &Comparer) {
+    for meeting in MISWEIGHED {
+        let count = both.misweighed.get(&meeting).copied().unwrap_or(0);
+        assert!(count >= LEAST_MET / 2, "{meeting:?} is rare in reports");
+    }
 }
 
 /// The paper's own report, from the library.
@@ -378,6 +473,20 @@ fn a_fault_of_the_sender_is_noticed_by_its_own_calls() {
         let faulty = Faulty(fault);
         let found = directed::senders(&mut Comparer::new(&Library, &faulty));
         assert_noticed(fault, "by the sender's calls", found);
+    }
+}
+
+/// The lists and calls made by hand for the weights notice their faults by
+/// themselves, but for those of a report or of a world handed in.
+#[test]
+fn a_fault_of_the_weights_is_noticed_by_its_own_calls() {
+    for fault in WEIGHT_FAULTS {
+        let faulty = Faulty(fault);
+        let mut both = Comparer::new(&Library, &faulty);
+        let found = directed::weights(&mut both)
+            .and_then(|()| directed::worlds(&mut both))
+            .and_then(|()| directed::reports(&mut both));
+        assert_noticed(fault, "by the weights' calls", found);
     }
 }
 

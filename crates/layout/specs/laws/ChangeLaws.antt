@@ -9,14 +9,15 @@ use native.Mathlib.Omega.{arith}
 use lib.ListN.{getD}
 use lib.Seq.{getD-set-same, getD-set-other}
 use Rattle.choice.specs.laws.Cases.{by-equal}
+use Rattle.code_bytes.specs.laws.CodeBytesLaws.{codesFrom-same}
 use Rattle.site.specs.declared.Site.{Site}
 use Rattle.site.specs.Fields.{blankSite}
 use Rattle.world.specs.declared.World.{World}
 use Rattle.world.specs.Worlds.{siteOf, withSite, withRows, withNews}
 use Rattle.layout.specs.Numbers.{putNumber}
-use Rattle.layout.specs.Layout.{layoutNumber, sitePlace, putHead, putSite, putSites, putWorld, siteAt, worldAt, siteInLayout, inLayout}
+use Rattle.layout.specs.Layout.{layoutNumber, sitePlace, putNumbers, putHead, putSite, putSites, putWorld, siteAt, worldAt, siteInLayout, inLayout}
 use Rattle.layout.specs.laws.NumberLaws.{putNumber-else}
-use Rattle.layout.specs.laws.SiteLaws.{putSite-else, siteAt-same, zeros-held, site-written-back, most-same, siteInLayout-same}
+use Rattle.layout.specs.laws.SiteLaws.{putSite-else, siteAt-same, zeros-held, codes-held, site-written-back, most-same, siteInLayout-same}
 use Rattle.layout.specs.laws.LayoutLaws.{byte-held, word-held, InsideParts, inside-parts, sites-each, site-of, read-sites}
 
 -- the world in the bytes, changed
@@ -46,7 +47,7 @@ site-kept :
 site-kept b d at e same =
     rw (sym (siteAt-same d b at same)) (site-written-back d at (siteInLayout-same d b at same ∙ e))
 
--- the counts lie before the last two bytes of the head
+-- the counts lie before the last two bytes of the head's numbers
 counts-apart : (b : List ℕ) (rows news p : ℕ) → 14 ≤ p → getD (putCounts b rows news) p 0 ≡ getD b p 0
 unfolding putCounts
 counts-apart b rows news p h =
@@ -56,12 +57,11 @@ counts-apart b rows news p h =
 head-changed :
     (b : List ℕ) (i : ℕ) (s : Site) (rows news : ℕ) → InsideParts b → ((j : ℕ) → getD b j 0 < 256) →
     putHead b (changedWorld b i s rows news) ≡ putCounts b rows news
-unfolding putHead putCounts changedWorld withNews withRows withSite worldAt
+unfolding putHead putNumbers putCounts changedWorld withNews withRows withSite worldAt
 head-changed b i s rows news parts small =
     rw
-    (byte-held b 0 layoutNumber (sym (parts .number)), byte-held b 1 (getD b 1 0) (mod-eq-of-lt (small 1)), word-held b 2 small, word-held b 4 small, word-held b 6 small)
-    (zeros-held 2 (putCounts b rows news) 14
-    (most-same 2 (putCounts b rows news) b 14 0 (λ j l. counts-apart b rows news (14 + j) (omega arith)) ∙ parts .zeros))
+    (byte-held b 0 layoutNumber (sym (parts .number)), byte-held b 1 (getD b 1 0) (mod-eq-of-lt (small 1)), word-held b 2 small, word-held b 4 small, word-held b 6 small, zeros-held 2 (putCounts b rows news) 14 (most-same 2 (putCounts b rows news) b 14 0 (λ j l. counts-apart b rows news (14 + j) (omega arith)) ∙ parts .zeros), codesFrom-same 16 b (putCounts b rows news) 16 (λ j l. sym (counts-apart b rows news (16 + j) (omega arith))))
+    (codes-held 16 (putCounts b rows news) 16 (omega arith))
 
 module _ (b : List ℕ) (i : ℕ) (s : Site) (rows news : ℕ) (small : i < 16) (parts : InsideParts b) where
   -- the sites before the changed one

@@ -3,7 +3,8 @@ use Prim.Native.Nat.{ℕ, zero, suc, _+_, _%_, _≤_, _<_}
 use mathlib.Core.Bool.{true, false}
 use mathlib.Core.List.{List}
 use mathlib.Core.Path.{_≡_, refl, sym, _∙_}
-use Rattle.code_bytes.specs.laws.CodeBytesLaws.{codesFrom-length}
+use Rattle.code_bytes.specs.CodeBytes.{codesFrom}
+use Rattle.code_bytes.specs.laws.CodeBytesLaws.{putCodes-length, putCodes-else, putCodes-at, codesFrom-length, codesFrom-at, codesFrom-same}
 use native.Mathlib.Nat.{add-zero, add-assoc, mod-eq-of-lt}
 use native.Mathlib.Omega.{arith}
 use lib.Dec.{eqb}
@@ -17,11 +18,12 @@ use Rattle.site.specs.declared.Site.{Site}
 use Rattle.site.specs.Fields.{blankSite}
 use Rattle.world.specs.declared.World.{World}
 use Rattle.world.specs.Worlds.{downSites, siteOf}
-use Rattle.layout.specs.Numbers.{shifted, putNumber, wordAt, longAt}
+use Rattle.word.specs.Words.{wordAt}
+use Rattle.layout.specs.Numbers.{shifted, putNumber, longAt}
 use Rattle.layout.specs.laws.NumberLaws.{putNumber-length, putNumber-else, putNumber-at, putNumber-same, word-written, word-same, word-else, long-written, long-same}
-use Rattle.layout.specs.Layout.{sitePlace, putHead, putSite, putSites, putWorld, siteAt, sitesFrom, worldAt, atMost, siteInLayout, sitesInLayout, inLayout, worldBytes, layoutNumber}
+use Rattle.layout.specs.Layout.{sitePlace, putNumbers, putHead, putSite, putSites, putWorld, siteAt, sitesFrom, worldAt, atMost, siteInLayout, sitesInLayout, inLayout, worldBytes, layoutNumber}
 use Rattle.layout.specs.Claims.{Fits, WorldReadBack, BytesWrittenBack, WrittenInside}
-use Rattle.layout.specs.laws.SiteLaws.{putSite-length, putSite-else, siteAt-same, site-read-back, zeros-held, site-written-back, most-all, zero-at, siteInLayout-same, site-inside}
+use Rattle.layout.specs.laws.SiteLaws.{putSite-length, putSite-else, siteAt-same, site-read-back, zeros-held, codes-held, site-written-back, most-all, zero-at, siteInLayout-same, site-inside}
 
 -- the sites written
 
@@ -31,19 +33,19 @@ putSites-length zero b w = refl
 putSites-length (suc k) b w = putSite-length (putSites k b w) (sitePlace k) (siteOf w k) ∙ putSites-length k b w
 
 -- the head lies before the sites
-putSites-head : (k : ℕ) (b : List ℕ) (w : World) (p : ℕ) → p < 16 → getD (putSites k b w) p 0 ≡ getD b p 0
+putSites-head : (k : ℕ) (b : List ℕ) (w : World) (p : ℕ) → p < 32 → getD (putSites k b w) p 0 ≡ getD b p 0
 unfolding putSites sitePlace
 putSites-head zero b w p h = refl
 putSites-head (suc k) b w p h =
     putSite-else (putSites k b w) (sitePlace k) (siteOf w k) p (λ i l e. omega arith) ∙ putSites-head k b w p h
 
-putSites-word : (b : List ℕ) (w : World) (p : ℕ) → p + 1 < 16 → wordAt (putSites 16 b w) p ≡ wordAt b p
+putSites-word : (b : List ℕ) (w : World) (p : ℕ) → p + 1 < 32 → wordAt (putSites 16 b w) p ≡ wordAt b p
 putSites-word b w p h =
     word-same (putSites 16 b w) b p (putSites-head 16 b w p (omega arith)) (putSites-head 16 b w (p + 1) h)
 
 -- each site reads back
 putSites-at :
-    (k : ℕ) (b : List ℕ) (w : World) (i : ℕ) → Fits w → i < k → k ≤ 16 → 656 ≤ length b →
+    (k : ℕ) (b : List ℕ) (w : World) (i : ℕ) → Fits w → i < k → k ≤ 16 → 672 ≤ length b →
     siteAt (putSites k b w) (sitePlace i) ≡ siteOf w i
 unfolding putSites sitePlace
 putSites-at zero b w i f h small room = absurd (omega arith)
@@ -77,15 +79,28 @@ sitesFrom-at (suc k) b i d h small =
 
 -- the head written
 
+putNumbers-length : (b : List ℕ) (w : World) → length (putNumbers b w) ≡ length b
+unfolding putNumbers
+putNumbers-length b w = simp putNumber-length
+
+-- the numbers lie before the weights
+head-numbers : (b : List ℕ) (w : World) (p : ℕ) → p < 16 → getD (putHead b w) p 0 ≡ getD (putNumbers b w) p 0
+unfolding putHead
+head-numbers b w p h = putCodes-else 16 (putNumbers b w) 16 (w .weights) p (λ i l e. omega arith)
+
+head-word : (b : List ℕ) (w : World) (p : ℕ) → p + 1 < 16 → wordAt (putHead b w) p ≡ wordAt (putNumbers b w) p
+head-word b w p h = word-same (putHead b w) (putNumbers b w) p (head-numbers b w p (omega arith)) (head-numbers b w (p + 1) h)
+
 pub putHead-length : (b : List ℕ) (w : World) → length (putHead b w) ≡ length b
 unfolding putHead
-putHead-length b w = simp putNumber-length
+putHead-length b w = simp (putCodes-length, putNumbers-length)
 
-module _ (b : List ℕ) (w : World) (room : 656 ≤ length b) where
+module _ (b : List ℕ) (w : World) (room : 672 ≤ length b) where
   head-n : w .n < 256 → getD (putHead b w) 1 0 ≡ w .n
-  unfolding putHead shifted
+  unfolding putNumbers shifted
   head-n small =
-      putNumber-else 2 _ 14 0 1 (λ i l e. omega arith)
+      head-numbers b w 1 (omega arith)
+      ∙ putNumber-else 2 _ 14 0 1 (λ i l e. omega arith)
       ∙ putNumber-else 4 _ 10 (w .news) 1 (λ i l e. omega arith)
       ∙ putNumber-else 2 _ 8 (w .rows) 1 (λ i l e. omega arith)
       ∙ putNumber-else 2 _ 6 (w .willing) 1 (λ i l e. omega arith)
@@ -95,9 +110,10 @@ module _ (b : List ℕ) (w : World) (room : 656 ≤ length b) where
       ∙ mod-eq-of-lt small
 
   head-commit : w .commit .0 < 65536 → wordAt (putHead b w) 2 ≡ w .commit .0
-  unfolding putHead
+  unfolding putNumbers
   head-commit small =
-      word-else 2 _ 14 0 2 (λ i l e. omega arith) (λ i l e. omega arith)
+      head-word b w 2 (omega arith)
+      ∙ word-else 2 _ 14 0 2 (λ i l e. omega arith) (λ i l e. omega arith)
       ∙ word-else 4 _ 10 (w .news) 2 (λ i l e. omega arith) (λ i l e. omega arith)
       ∙ word-else 2 _ 8 (w .rows) 2 (λ i l e. omega arith) (λ i l e. omega arith)
       ∙ word-else 2 _ 6 (w .willing) 2 (λ i l e. omega arith) (λ i l e. omega arith)
@@ -105,9 +121,10 @@ module _ (b : List ℕ) (w : World) (room : 656 ≤ length b) where
       ∙ word-written (putNumber 1 (putNumber 1 b 0 layoutNumber) 1 (w .n)) 2 (w .commit .0) (simp putNumber-length (omega arith)) small
 
   head-abort : w .abort .0 < 65536 → wordAt (putHead b w) 4 ≡ w .abort .0
-  unfolding putHead
+  unfolding putNumbers
   head-abort small =
-      word-else 2 _ 14 0 4 (λ i l e. omega arith) (λ i l e. omega arith)
+      head-word b w 4 (omega arith)
+      ∙ word-else 2 _ 14 0 4 (λ i l e. omega arith) (λ i l e. omega arith)
       ∙ word-else 4 _ 10 (w .news) 4 (λ i l e. omega arith) (λ i l e. omega arith)
       ∙ word-else 2 _ 8 (w .rows) 4 (λ i l e. omega arith) (λ i l e. omega arith)
       ∙ word-else 2 _ 6 (w .willing) 4 (λ i l e. omega arith) (λ i l e. omega arith)
@@ -115,9 +132,10 @@ module _ (b : List ℕ) (w : World) (room : 656 ≤ length b) where
       (simp putNumber-length (omega arith)) small
 
   head-willing : w .willing < 65536 → wordAt (putHead b w) 6 ≡ w .willing
-  unfolding putHead
+  unfolding putNumbers
   head-willing small =
-      word-else 2 _ 14 0 6 (λ i l e. omega arith) (λ i l e. omega arith)
+      head-word b w 6 (omega arith)
+      ∙ word-else 2 _ 14 0 6 (λ i l e. omega arith) (λ i l e. omega arith)
       ∙ word-else 4 _ 10 (w .news) 6 (λ i l e. omega arith) (λ i l e. omega arith)
       ∙ word-else 2 _ 8 (w .rows) 6 (λ i l e. omega arith) (λ i l e. omega arith)
       ∙ word-written
@@ -125,9 +143,10 @@ module _ (b : List ℕ) (w : World) (room : 656 ≤ length b) where
       (simp putNumber-length (omega arith)) small
 
   head-rows : w .rows < 65536 → wordAt (putHead b w) 8 ≡ w .rows
-  unfolding putHead
+  unfolding putNumbers
   head-rows small =
-      word-else 2 _ 14 0 8 (λ i l e. omega arith) (λ i l e. omega arith)
+      head-word b w 8 (omega arith)
+      ∙ word-else 2 _ 14 0 8 (λ i l e. omega arith) (λ i l e. omega arith)
       ∙ word-else 4 _ 10 (w .news) 8 (λ i l e. omega arith) (λ i l e. omega arith)
       ∙ word-written
       (putNumber 2 (putNumber 2 (putNumber 2 (putNumber 1 (putNumber 1 b 0 layoutNumber) 1 (w .n)) 2 (w .commit .0)) 4 (w .abort .0)) 6
@@ -135,9 +154,10 @@ module _ (b : List ℕ) (w : World) (room : 656 ≤ length b) where
       8 (w .rows) (simp putNumber-length (omega arith)) small
 
   head-news : w .news < 4294967296 → longAt (putHead b w) 10 ≡ w .news
-  unfolding putHead
+  unfolding putNumbers
   head-news small =
-      long-same (putHead b w) _ 10
+      long-same (putHead b w) (putNumbers b w) 10 (head-word b w 10 (omega arith)) (head-word b w 12 (omega arith))
+      ∙ long-same (putNumbers b w) _ 10
       (word-else 2 _ 14 0 10 (λ i l e. omega arith) (λ i l e. omega arith))
       (word-else 2 _ 14 0 12 (λ i l e. omega arith) (λ i l e. omega arith))
       ∙ long-written
@@ -147,10 +167,19 @@ module _ (b : List ℕ) (w : World) (room : 656 ≤ length b) where
       8 (w .rows))
       10 (w .news) (simp putNumber-length (omega arith)) small
 
+  head-weights : length (w .weights) ≡ 16 → codesFrom 16 (putHead b w) 16 ≡ w .weights
+  unfolding putHead
+  head-weights l =
+      ext-getD 0 (codesFrom 16 (putHead b w) 16) (w .weights) (codesFrom-length 16 (putHead b w) 16 ∙ sym l)
+      (λ i h.
+      let small : i < 16 = omega (arith, codesFrom-length 16 (putHead b w) 16) in
+      codesFrom-at 16 (putHead b w) 16 i small (omega arith)
+      ∙ putCodes-at 16 (putNumbers b w) 16 (w .weights) i small (rw putNumbers-length (omega arith)))
+
 world-same :
     (v w : World) → v .sites ≡ w .sites → v .n ≡ w .n → v .commit .0 ≡ w .commit .0 → v .abort .0 ≡ w .abort .0 →
-    v .willing ≡ w .willing → v .rows ≡ w .rows → v .news ≡ w .news → v ≡ w
-world-same v w a b c d e f g =
+    v .willing ≡ w .willing → v .weights ≡ w .weights → v .rows ≡ w .rows → v .news ≡ w .news → v ≡ w
+world-same v w a b c d e f g h =
     let z : _≡_ {A = World}
     (record {
       sites = v .sites;
@@ -158,6 +187,7 @@ world-same v w a b c d e f g =
       commit = record { 0 = v .commit .0 };
       abort = record { 0 = v .abort .0 };
       willing = v .willing;
+      weights = v .weights;
       rows = v .rows;
       news = v .news;
     })
@@ -167,6 +197,7 @@ world-same v w a b c d e f g =
       commit = record { 0 = w .commit .0 };
       abort = record { 0 = w .abort .0 };
       willing = w .willing;
+      weights = w .weights;
       rows = w .rows;
       news = w .news;
     }) = cc in
@@ -176,7 +207,7 @@ world-same v w a b c d e f g =
 pub world-read-back : WorldReadBack
 unfolding worldAt putWorld siteOf
 world-read-back b w room f =
-    let long : 656 ≤ length (putHead b w) = rw putHead-length room in
+    let long : 672 ≤ length (putHead b w) = rw putHead-length room in
     world-same (worldAt (putWorld b w)) w
     (ext-getD (blankSite false) (sitesFrom 16 (putWorld b w)) (w .sites) (sitesFrom-length 16 (putWorld b w) ∙ sym (f .sites))
     (λ i h.
@@ -187,6 +218,8 @@ world-read-back b w room f =
     (putSites-word (putHead b w) w 2 (omega arith) ∙ head-commit b w room (f .commit-fits))
     (putSites-word (putHead b w) w 4 (omega arith) ∙ head-abort b w room (f .abort-fits))
     (putSites-word (putHead b w) w 6 (omega arith) ∙ head-willing b w room (f .willing-fits))
+    (codesFrom-same 16 (putWorld b w) (putHead b w) 16 (λ i h. putSites-head 16 (putHead b w) w (16 + i) (omega arith))
+    ∙ head-weights b w room (f .weights))
     (putSites-word (putHead b w) w 8 (omega arith) ∙ head-rows b w room (f .rows-fit))
     (long-same (putSites 16 (putHead b w) w) (putHead b w) 10 (putSites-word (putHead b w) w 10 (omega arith))
     (putSites-word (putHead b w) w 12 (omega arith))
@@ -276,11 +309,11 @@ sites-held (suc k) b e h =
 
 head-held :
     (b : List ℕ) → ((i : ℕ) → getD b i 0 < 256) → getD b 0 0 ≡ layoutNumber → atMost 2 b 14 0 ≡ true → putHead b (worldAt b) ≡ b
-unfolding putHead worldAt
+unfolding putHead putNumbers worldAt
 head-held b small number zeros =
     rw
-    (byte-held b 0 layoutNumber (sym number), byte-held b 1 (getD b 1 0) (mod-eq-of-lt (small 1)), word-held b 2 small, word-held b 4 small, word-held b 6 small, word-held b 8 small, long-held b 10 small)
-    (zeros-held 2 b 14 zeros)
+    (byte-held b 0 layoutNumber (sym number), byte-held b 1 (getD b 1 0) (mod-eq-of-lt (small 1)), word-held b 2 small, word-held b 4 small, word-held b 6 small, word-held b 8 small, long-held b 10 small, zeros-held 2 b 14 zeros)
+    (codes-held 16 b 16 (omega arith))
 
 -- BYTES READ AND WRITTEN: a byte is below 256
 pub bytes-written-back : BytesWrittenBack
@@ -291,10 +324,11 @@ bytes-written-back b e small =
 
 -- the head's first byte and its zeros
 
-head-number : (b : List ℕ) (w : World) → 656 ≤ length b → getD (putHead b w) 0 0 ≡ layoutNumber
-unfolding putHead shifted
+head-number : (b : List ℕ) (w : World) → 672 ≤ length b → getD (putHead b w) 0 0 ≡ layoutNumber
+unfolding putNumbers shifted
 head-number b w room =
-    putNumber-else 2 _ 14 0 0 (λ i l e. omega arith)
+    head-numbers b w 0 (omega arith)
+    ∙ putNumber-else 2 _ 14 0 0 (λ i l e. omega arith)
     ∙ putNumber-else 4 _ 10 (w .news) 0 (λ i l e. omega arith)
     ∙ putNumber-else 2 _ 8 (w .rows) 0 (λ i l e. omega arith)
     ∙ putNumber-else 2 _ 6 (w .willing) 0 (λ i l e. omega arith)
@@ -303,10 +337,11 @@ head-number b w room =
     ∙ putNumber-else 1 _ 1 (w .n) 0 (λ i l e. omega arith)
     ∙ putNumber-at 1 b 0 layoutNumber 0 (omega arith) (omega arith)
 
-head-zero : (b : List ℕ) (w : World) (i : ℕ) → 656 ≤ length b → i < 2 → getD (putHead b w) (14 + i) 0 ≡ 0
-unfolding putHead
+head-zero : (b : List ℕ) (w : World) (i : ℕ) → 672 ≤ length b → i < 2 → getD (putHead b w) (14 + i) 0 ≡ 0
+unfolding putNumbers
 head-zero b w i room h =
-    zero-at 2
+    head-numbers b w (14 + i) (omega arith)
+    ∙ zero-at 2
     (putNumber 4
     (putNumber 2
     (putNumber 2
@@ -317,7 +352,7 @@ head-zero b w i room h =
     14 i h (simp putNumber-length (omega arith))
 
 sites-inside :
-    (k : ℕ) (b : List ℕ) (w : World) (i : ℕ) → i < k → k ≤ 16 → 656 ≤ length b →
+    (k : ℕ) (b : List ℕ) (w : World) (i : ℕ) → i < k → k ≤ 16 → 672 ≤ length b →
     siteInLayout (putSites k b w) (sitePlace i) ≡ true
 unfolding putSites sitePlace
 sites-inside zero b w i h small room = absurd (omega arith)
@@ -339,8 +374,8 @@ sites-all (suc k) b h =
 pub written-inside : WrittenInside
 unfolding inLayout putWorld
 written-inside b w same =
-    let room : 656 ≤ length b = omega arith in
-    let long : 656 ≤ length (putHead b w) = rw putHead-length room in
+    let room : 672 ≤ length b = omega arith in
+    let long : 672 ≤ length (putHead b w) = rw putHead-length room in
     let size : length (putSites 16 (putHead b w) w) ≡ worldBytes = putSites-length 16 (putHead b w) w ∙ putHead-length b w ∙ same in
     let number : getD (putSites 16 (putHead b w) w) 0 0 ≡ layoutNumber =
     putSites-head 16 (putHead b w) w 0 (omega arith) ∙ head-number b w room in
@@ -374,3 +409,9 @@ read-codes b j h = rw (site-of j b h) (codesFrom-length 16 b (sitePlace j + 8))
 pub read-joined : (b : List ℕ) (j : ℕ) → j < 16 → length (siteOf (worldAt b) j .joined) ≡ 16
 unfolding siteAt
 read-joined b j h = rw (site-of j b h) (codesFrom-length 16 b (sitePlace j + 24))
+
+-- and sixteen weights
+
+pub read-weights : (b : List ℕ) → length (worldAt b .weights) ≡ 16
+unfolding worldAt
+read-weights b = codesFrom-length 16 b 16

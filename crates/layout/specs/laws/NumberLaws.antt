@@ -7,7 +7,8 @@ use native.Mathlib.Omega.{arith}
 use lib.ListN.{length, getD, length-set}
 use lib.Seq.{getD-set-other, set-getD}
 use Rattle.choice.specs.laws.ChoiceLaws.{set-ind}
-use Rattle.layout.specs.Numbers.{shifted, putNumber, wordAt, longAt}
+use Rattle.word.specs.Words.{wordAt}
+use Rattle.layout.specs.Numbers.{shifted, putNumber, longAt}
 
 pub putNumber-length : (k : ℕ) (b : List ℕ) (at x : ℕ) → length (putNumber k b at x) ≡ length b
 unfolding putNumber

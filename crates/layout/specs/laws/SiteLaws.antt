@@ -285,7 +285,7 @@ zeros-held k b at e =
     putNumber-same k b at 0
     (λ i h. rw (shifted-zero i) (let z : getD b (at + i) 0 ≤ 0 = most-each k b at 0 e i h in omega arith))
 
-codes-held : (k : ℕ) (b : List ℕ) (at : ℕ) → k ≤ 16 → putCodes k b at (codesFrom 16 b at) ≡ b
+pub codes-held : (k : ℕ) (b : List ℕ) (at : ℕ) → k ≤ 16 → putCodes k b at (codesFrom 16 b at) ≡ b
 unfolding putCodes
 codes-held zero b at h = refl
 codes-held (suc k) b at h =

@@ -69,13 +69,13 @@ unfolding codeDigits
 digits-length zero v = refl
 digits-length (suc k) v = simp length-append (omega (arith, digits-length k v))
 
--- n, C and A have at most two digits, events five, rows four, news six
-pub sizes-length : (w : World) (events : ℕ) → validWorld w ≡ true → events ≤ 32768 → length (sizesLine w events) ≤ 63
+-- n has at most two digits, C, A and rows four, events five, news six
+pub sizes-length : (w : World) (events : ℕ) → validWorld w ≡ true → events ≤ 32768 → length (sizesLine w events) ≤ 67
 unfolding sizesLine named text
 sizes-length w events e h =
     let s : SmallSizes w = small-sizes w e in
     simp length-append
-    (omega (arith, decimal-below 2 (w .n) (omega arith) (omega arith), decimal-below 2 (w .commit .0) (omega arith) (omega arith), decimal-below 2 (w .abort .0) (omega arith) (omega arith), decimal-below 5 events (omega arith) (omega arith), decimal-below 4 (w .rows) (omega arith) (omega arith), decimal-below 6 (w .news) (omega arith) (omega arith)))
+    (omega (arith, decimal-below 2 (w .n) (omega arith) (omega arith), decimal-below 4 (w .commit .0) (omega arith) (omega arith), decimal-below 4 (w .abort .0) (omega arith) (omega arith), decimal-below 5 events (omega arith) (omega arith), decimal-below 4 (w .rows) (omega arith) (omega arith), decimal-below 6 (w .news) (omega arith) (omega arith)))
 
 site-length : (i n : ℕ) (s : Site) → n ≤ 16 → length (siteLine i n s) ≤ 52 + length (decimal i)
 unfolding siteLine text

@@ -1,5 +1,5 @@
 -- Laws of the lines: what a valid vector's codes are.
-use Prim.Native.Nat.{ℕ, zero, suc, _≤_, _<_}
+use Prim.Native.Nat.{ℕ, zero, suc, _-_, _≤_, _<_}
 use mathlib.Core.Bool.{true}
 use mathlib.Core.List.{List, _++_}
 use mathlib.Core.Path.{_≡_}
@@ -11,6 +11,8 @@ use Rattle.choice.specs.Choice.{both}
 use Rattle.choice.specs.laws.ChoiceLaws.{both-first, both-second}
 use Rattle.choice.specs.laws.Cases.{by-equal}
 use Rattle.text.specs.Text.{text, named}
+use Rattle.weights.specs.Weights.{totalWeight, largestWeight}
+use Rattle.weights.specs.laws.WeightLaws.{weighed, rest-most}
 use Rattle.vector.specs.Vector.{validEntry, validEntries, validVector}
 use Rattle.site.specs.State.{stateOf, codeOf}
 use Rattle.world.specs.declared.World.{World}
@@ -50,18 +52,19 @@ site-codes w e k h =
 -- the numbers of a valid world's sizes line
 pub record SmallSizes (w : World) : Type 0 where
   pub sites-small : w .n ≤ 16
-  pub commit-small : w .commit .0 ≤ 16
-  pub abort-small : w .abort .0 ≤ 16
+  pub commit-small : w .commit .0 ≤ 3825
+  pub abort-small : w .abort .0 ≤ 3825
   pub rows-small : w .rows ≤ 1024
   pub news-small : w .news ≤ maxNews
 
 pub small-sizes : (w : World) → validWorld w ≡ true → SmallSizes w
 small-sizes w e =
-    let s : Sized (w .n) (w .commit) (w .abort) (w .willing) = valid-sized w e in
+    let s : Sized (w .n) (w .weights) (w .commit) (w .abort) (w .willing) = valid-sized w e in
+    let most : totalWeight (w .weights) - largestWeight (w .weights) ≤ 3825 = rest-most (w .n) (w .weights) (weighed (w .n) (w .weights) (s .weighed)) in
     record {
       sites-small = s .high;
-      commit-small = omega arith;
-      abort-small = omega arith;
+      commit-small = omega (arith, s .commit-most);
+      abort-small = omega (arith, s .abort-most);
       rows-small = valid-parts w e .rows;
       news-small = valid-parts w e .news;
     }

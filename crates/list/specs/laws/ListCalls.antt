@@ -8,7 +8,7 @@ use Rattle.choice.specs.Choice.{pick}
 use Rattle.choice.specs.laws.ChoiceLaws.{pick-ind}
 use Rattle.world.specs.declared.World.{World}
 use Rattle.world.specs.Sizes.{storeBytes}
-use Rattle.header.specs.Headers.{headerOf, headerNumber, headerWorld}
+use Rattle.header.specs.Headers.{headerOf, headerWeights, headerLength, headerNumber, headerWorld}
 use Rattle.play.specs.Calls.{Call}
 use Rattle.play.specs.Commands.{oneCommand}
 use Rattle.play.specs.Run.{Ask, callOf}
@@ -40,16 +40,16 @@ from-follows (suc fuel) w store list at events =
 pub list-follows-on : ListFollowsOn
 unfolding playList refusedList stopped FollowOn
 list-follows-on store list =
-    pick-ind (λ p. FollowOn (headerWorld list) store 5 (p .asks)) (ltb (length store) storeBytes) (refusedList 16 store)
-    (pick (eqb (headerNumber list) 0) (playFrom (length list) (headerWorld list) store list 5 0)
+    pick-ind (λ p. FollowOn (headerWorld list) store (headerLength list) (p .asks)) (ltb (length store) storeBytes) (refusedList 16 store)
+    (pick (eqb (headerNumber list) 0) (playFrom (length list) (headerWorld list) store list (headerLength list) 0)
     (refusedList (headerNumber list) store))
     (λ _. record {})
-    (λ _. pick-ind (λ p. FollowOn (headerWorld list) store 5 (p .asks)) (eqb (headerNumber list) 0)
-    (playFrom (length list) (headerWorld list) store list 5 0) (refusedList (headerNumber list) store)
-    (λ _. from-follows (length list) (headerWorld list) store list 5 0) (λ _. record {}))
+    (λ _. pick-ind (λ p. FollowOn (headerWorld list) store (headerLength list) (p .asks)) (eqb (headerNumber list) 0)
+    (playFrom (length list) (headerWorld list) store list (headerLength list) 0) (refusedList (headerNumber list) store)
+    (λ _. from-follows (length list) (headerWorld list) store list (headerLength list) 0) (λ _. record {}))
 
 -- a list's calls are calls from the maker's world
 pub list-never-occurs : ListNeverOccurs
 unfolding headerWorld
 list-never-occurs store list first rest ask d next split =
-    never-occurs (headerOf list .n) (headerOf list .commit) (headerOf list .abort) (headerOf list .willing) store first ask d next
+    never-occurs (headerOf list .n) (headerWeights list) (headerOf list .commit) (headerOf list .abort) (headerOf list .willing) store first ask d next

@@ -10,7 +10,8 @@ use Rattle.world.specs.declared.World.{World}
 use Rattle.world.specs.Sizes.{listBytes, storeBytes}
 use Rattle.world.specs.Valid.{validWorld}
 use Rattle.world.specs.laws.WorldLaws.{valid-sized}
-use Rattle.header.specs.Headers.{headerOf, headerWorld}
+use Rattle.header.specs.Headers.{headerOf, headerWeights, headerLength, headerWorld}
+use Rattle.header.specs.laws.HeaderLaws.{length-some}
 use Rattle.play.specs.Commands.{playCommand, oneCommand}
 use Rattle.play.specs.laws.CallLaws.{one-is-play}
 use Rattle.safety.specs.Claims.{Shaped}
@@ -28,10 +29,11 @@ pub record Heard (w : World) (at : ℕ) : Type 0 where
 
 pub header-none : (list : List ℕ) → headerWorld list .news ≡ 0
 unfolding headerWorld
-header-none list = fresh-none (headerOf list .n) (headerOf list .commit) (headerOf list .abort) (headerOf list .willing)
+header-none list = fresh-none (headerOf list .n) (headerWeights list) (headerOf list .commit) (headerOf list .abort) (headerOf list .willing)
 
-pub heard-first : (list : List ℕ) → Heard (headerWorld list) 5
-heard-first list = record { deliveries = 0; fifteen = omega (arith, header-none list); four = omega arith }
+pub heard-first : (list : List ℕ) → Heard (headerWorld list) (headerLength list)
+heard-first list =
+    record { deliveries = 0; fifteen = omega (arith, header-none list); four = omega (arith, length-some list) }
 
 pub heard-low : (w : World) (at : ℕ) → Heard w at → at ≤ listBytes → w .news ≤ 122850
 heard-low w at h few = omega (arith, h .fifteen, h .four, few)

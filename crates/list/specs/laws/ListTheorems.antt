@@ -4,9 +4,9 @@ use mathlib.Core.Bool.{true, false}
 use mathlib.Core.List.{List, [], _∷_}
 use mathlib.Core.Path.{_≡_, refl, ap}
 use native.Mathlib.Omega.{arith}
-use lib.Dec.{ltb, eqb}
+use lib.Dec.{ltb, leb, eqb}
 use lib.ListN.{length}
-use borrow.Author.Tests.{ltb-false, eqb-true, eqb-false, ne-eqb}
+use borrow.Author.Tests.{ltb-false, le-leb, leb-true, eqb-true, eqb-false, ne-eqb}
 use Rattle.choice.specs.Choice.{pick}
 use Rattle.choice.specs.laws.ChoiceLaws.{pick-ind}
 use Rattle.choice.specs.laws.Cases.{by-test, by-equal}
@@ -15,8 +15,8 @@ use Rattle.world.specs.Sizes.{maxNews, listBytes, storeBytes}
 use Rattle.world.specs.Worlds.{zeroWorld}
 use Rattle.world.specs.Valid.{validWorld}
 use Rattle.world.specs.laws.WorldLaws.{valid-sized}
-use Rattle.header.specs.Headers.{headerOf, headerNumber, headerWorld}
-use Rattle.header.specs.laws.HeaderLaws.{headed, header-small}
+use Rattle.header.specs.Headers.{headerOf, headerWeights, headerLength, headerNumber, headerWorld}
+use Rattle.header.specs.laws.HeaderLaws.{headed, headerStop, header-stop}
 use Rattle.play.specs.Calls.{Call}
 use Rattle.play.specs.Commands.{oneCommand}
 use Rattle.play.specs.Run.{Ask, run, callOf, afterCall}
@@ -26,7 +26,7 @@ use Rattle.safety.specs.laws.Unchanging.{refused-changes-nothing}
 use Rattle.safety.specs.laws.Demand3.{demand3}
 use Rattle.safety.specs.laws.News.{run-adds}
 use Rattle.list.specs.Play.{Play, stopped, afterAsk, askAt, playFrom, refusedList, playList}
-use Rattle.list.specs.Claims.{OfList, IsRun, ListIsRun, ListSafe, ListNewsIsSum, ListNewsIsLow, Ends, ListEnds}
+use Rattle.list.specs.Claims.{OfList, IsRun, ListIsRun, ListSafe, ListNewsIsSum, ListNewsIsLow, isStop, Ends, ListEnds}
 use Rattle.list.specs.laws.CommandLaws.{number-below}
 use Rattle.list.specs.laws.PlayLaws.{play-ind, Further, further-one}
 use Rattle.list.specs.laws.ListNews.{header-none, Heard, heard-first, heard-low, heard-on}
@@ -36,7 +36,7 @@ use Rattle.list.specs.laws.HeaderLaws.{header-valid, header-shaped, whol
 pub list-safe : ListSafe
 unfolding headerWorld
 list-safe store list =
-    demand3 (headerOf list .n) (headerOf list .commit) (headerOf list .abort) (headerOf list .willing) store
+    demand3 (headerOf list .n) (headerWeights list) (headerOf list .commit) (headerOf list .abort) (headerOf list .willing) store
     (playList store list .asks)
 
 -- a play from a place on, with the events counted before it
@@ -91,7 +91,7 @@ from-is-run (suc fuel) w store list at events =
 pub list-is-run : ListIsRun
 list-is-run store list room e =
     let r : RunOf (headerWorld list) store list 0 (playList store list) =
-    rw (whole-from store list e room) (from-is-run (length list) (headerWorld list) store list 5 0) in
+    rw (whole-from store list e room) (from-is-run (length list) (headerWorld list) store list (headerLength list) 0) in
     record { of-list = r .of-list; one-each = omega (arith, r .one-each); same-world = r .same-world; same-store = r .same-store }
 
 -- a claim of a whole play, shown where a store that is too short or a header is refused, and of a run
@@ -127,9 +127,20 @@ record Ended (list : List ℕ) (p : Play) : Type 0 where
   ends : Ends list p
   low : p .played .world .news ≤ 122850
 
+-- numbers up to 16, and those of a header
+stop-low : (number : ℕ) → number ≤ 16 → isStop number ≡ true
+unfolding isStop
+stop-low number low = rw (le-leb number 16 low)
+
+stop-header : (number : ℕ) → headerStop number ≡ true → isStop number ≡ true
+unfolding isStop headerStop
+stop-header number e =
+    by-test (leb number 5) (λ few. rw (le-leb number 16 (omega (arith, leb-true number 5 few))))
+    (λ many. by-test (leb number 16) (λ low. rw low) (λ high. rw high (rw many at e)))
+
 -- a stop within the list, at a number of the table; at 0 only where the list ends
 ended-stopped :
-    (number : ℕ) (w : World) (store list : List ℕ) (at events : ℕ) (asks : List Ask) → number ≤ 16 → at ≤ length list →
+    (number : ℕ) (w : World) (store list : List ℕ) (at events : ℕ) (asks : List Ask) → isStop number ≡ true → at ≤ length list →
     (number ≡ 0 → at ≡ length list) → w .news ≤ 122850 → Ended list (stopped number w store at events asks)
 unfolding stopped
 ended-stopped number w store list at events asks k h z few =
@@ -149,15 +160,15 @@ from-ended :
     Ended list (playFrom fuel w store list at events)
 unfolding playFrom
 from-ended zero w store list at events h fuelled room valid shaped most heard =
-    ended-stopped 0 w store list at events [] (omega arith) h (λ _. omega arith) (heard-low w at heard (omega arith))
+    ended-stopped 0 w store list at events [] (stop-low 0 (omega arith)) h (λ _. omega arith) (heard-low w at heard (omega arith))
 from-ended (suc fuel) w store list at events h fuelled room valid shaped most heard =
     let c : Call = oneCommand w store list at in
     let low : w .news ≤ 122850 = heard-low w at heard (omega arith) in
     let news-room : w .news + (w .n - 1) ≤ maxNews = omega (arith, low, valid-sized w valid .high) in
     play-ind (Ended list) fuel w store list at events
-    (λ l. ended-stopped 0 w store list at events [] (omega arith) h (λ _. omega arith) low)
+    (λ l. ended-stopped 0 w store list at events [] (stop-low 0 (omega arith)) h (λ _. omega arith) low)
     (λ _ e. ended-stopped (c .number) w store list at events (askAt list at ∷ [])
-    (rw (one-is-play w store list at room valid) (omega (arith, number-below w store list at news-room))) h (λ z. absurd (e z)) low)
+    (stop-low (c .number) (rw (one-is-play w store list at room valid) (omega (arith, number-below w store list at news-room)))) h (λ z. absurd (e z)) low)
     (λ _ e. let k : Further list at c = further-one w store list at room valid shaped e in
     ended-after list (askAt list at) (playFrom fuel (c .world) (c .store) list (c .place) (events + 1))
     (from-ended fuel (c .world) (c .store) list (c .place) (events + 1) (k .within) (omega arith) (k .room) (k .valid) (k .shaped)
@@ -167,16 +178,16 @@ list-ended : (store list : List ℕ) → Ended list (playList store list)
 unfolding playList refusedList zeroWorld
 list-ended store list =
     pick-ind (Ended list) (ltb (length store) storeBytes) (refusedList 16 store)
-    (pick (eqb (headerNumber list) 0) (playFrom (length list) (headerWorld list) store list 5 0)
+    (pick (eqb (headerNumber list) 0) (playFrom (length list) (headerWorld list) store list (headerLength list) 0)
     (refusedList (headerNumber list) store))
-    (λ _. ended-stopped 16 zeroWorld store list 0 0 [] (omega arith) (omega arith) (λ z. absurd (omega arith)) (omega arith))
-    (λ room. pick-ind (Ended list) (eqb (headerNumber list) 0) (playFrom (length list) (headerWorld list) store list 5 0)
+    (λ _. ended-stopped 16 zeroWorld store list 0 0 [] (stop-low 16 (omega arith)) (omega arith) (λ z. absurd (omega arith)) (omega arith))
+    (λ room. pick-ind (Ended list) (eqb (headerNumber list) 0) (playFrom (length list) (headerWorld list) store list (headerLength list) 0)
     (refusedList (headerNumber list) store)
     (λ e. let head : headerNumber list ≡ 0 = eqb-true (headerNumber list) 0 e in
-    from-ended (length list) (headerWorld list) store list 5 0 (headed list head .header) (omega arith)
+    from-ended (length list) (headerWorld list) store list (headerLength list) 0 (headed list head .whole) (omega arith)
     (ltb-false (length store) storeBytes room) (header-valid list head) (header-shaped list)
     (headed list head .small) (heard-first list))
-    (λ e. ended-stopped (headerNumber list) zeroWorld store list 0 0 [] (omega (arith, header-small list)) (omega arith)
+    (λ e. ended-stopped (headerNumber list) zeroWorld store list 0 0 [] (stop-header (headerNumber list) (header-stop list)) (omega arith)
     (λ z. absurd (eqb-false (headerNumber list) 0 e z)) (omega arith)))
 
 -- every list is played to its end or stopped, and never at 17

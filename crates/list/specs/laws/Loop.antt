@@ -8,7 +8,7 @@ use lib.ListN.{length}
 use Rattle.world.specs.declared.World.{World}
 use Rattle.world.specs.Sizes.{storeBytes}
 use Rattle.world.specs.Valid.{validWorld}
-use Rattle.header.specs.Headers.{headerNumber, headerWorld}
+use Rattle.header.specs.Headers.{headerLength, headerNumber, headerWorld}
 use Rattle.header.specs.laws.HeaderLaws.{headed}
 use Rattle.play.specs.Commands.{playCommand}
 use Rattle.safety.specs.Claims.{Shaped}
@@ -34,13 +34,13 @@ pub record Over (p : Play) (number : ℕ) (w : World) (store : List ℕ) (at eve
 
 pub loop-begins :
     (store list : List ℕ) → headerNumber list ≡ 0 → storeBytes ≤ length store →
-    Underway (playList store list) (headerWorld list) store list 5 0
+    Underway (playList store list) (headerWorld list) store list (headerLength list) 0
 loop-begins store list e room =
     record {
       room = room;
       valid = header-valid list e;
       shaped = header-shaped list;
-      within = headed list e .header;
+      within = headed list e .whole;
       few = omega arith;
       played = ap (λ q. q .played) (sym (whole store list e room));
       kept = ap (λ q. q .store) (sym (whole store list e room));

@@ -169,8 +169,8 @@ module _ (w : World) (store list : List ℕ) (at : ℕ) where
       placed-deliver next (d .row) (d .site) (spans-next (Command·.Deliver d) list at next h) (h .bytes)
   placed-perform (Command·.Timeout t) next h =
       let n : Next list at next = spans-next (Command·.Timeout t) list at next h in
-      let q : Told w at next (timeout (t .site) (w .n) (w .commit) (w .abort) (siteOf w (t .site)) .step .news) =
-      quiet-told next _ (quiet-timeout (t .site) (w .n) (w .commit) (w .abort) (siteOf w (t .site))) in
+      let q : Told w at next (timeout (t .site) (w .n) (w .weights) (w .commit) (w .abort) (siteOf w (t .site)) .step .news) =
+      quiet-told next _ (quiet-timeout (t .site) (w .n) (w .weights) (w .commit) (w .abort) (siteOf w (t .site))) in
       search (placed-pick, placed-enter, placed-refuse, n, q)
   placed-perform (Command·.Crash t) next h =
       let n : Next list at next = spans-next (Command·.Crash t) list at next h in

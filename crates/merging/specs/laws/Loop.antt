@@ -10,7 +10,8 @@ use borrow.Author.Tests.{ltb-true, ltb-false}
 use Rattle.choice.specs.Choice.{pick}
 use Rattle.choice.specs.laws.ChoiceLaws.{pick-on, pick-off, set-ind}
 use Rattle.choice.specs.laws.Cases.{by-test}
-use Rattle.choice.specs.laws.Stores.{storedTo, stored-length, stored-else, stored-at, sumTo, sum-same}
+use Rattle.choice.specs.Places.{sumTo, storedTo}
+use Rattle.choice.specs.laws.Stores.{stored-length, stored-else, stored-at, sum-same}
 use Rattle.merging.specs.Merging.{mergeEntry, isOther, merging}
 use Rattle.merging.specs.laws.Orders.{other-on, other-own, other-beyond}
 use Rattle.merging.specs.laws.MergeLaws.{merged-same, merging-length, merging-entry}

@@ -10,7 +10,8 @@ use borrow.Author.Tests.{eq-eqb, ne-eqb, ltb-true, ltb-false}
 use Rattle.choice.specs.Choice.{pick}
 use Rattle.choice.specs.laws.ChoiceLaws.{pick-ind}
 use Rattle.choice.specs.laws.Cases.{by-test, by-equal}
-use Rattle.choice.specs.laws.Stores.{sumTo, sum-same}
+use Rattle.choice.specs.Places.{sumTo}
+use Rattle.choice.specs.laws.Stores.{sum-same}
 use Rattle.merging.specs.declared.Merged.{Merged}
 use Rattle.merging.specs.Merging.{rises, takeEntry, takeEntries, mergingInOrder, isOther, merging, takes, TakesOthersOnce}
 use Rattle.merging.specs.laws.Orders.{other-own, other-below, other-unlike, takes-here, takes-there, sender-first-once}

@@ -21,7 +21,16 @@ use Rattle.play.specs.Calls.{Call, playedOf}
 
 -- a world without its sites
 unfoldable pub headOf : World → Head
-headOf w = record { n = w .n; commit = w .commit; abort = w .abort; willing = w .willing; rows = w .rows; news = w .news }
+headOf w =
+    record {
+      n = w .n;
+      commit = w .commit;
+      abort = w .abort;
+      willing = w .willing;
+      weights = w .weights;
+      rows = w .rows;
+      news = w .news;
+    }
 
 -- the world of these sites and this head
 unfoldable pub worldOf : List Site → Head → World
@@ -32,6 +41,7 @@ worldOf sites h =
       commit = h .commit;
       abort = h .abort;
       willing = h .willing;
+      weights = h .weights;
       rows = h .rows;
       news = h .news;
     }

@@ -5,16 +5,17 @@ use mathlib.Core.Path.{_≡_, refl, ap, _∙_}
 use native.Mathlib.Numerals.{add-one}
 use native.Mathlib.Omega.{arith}
 use lib.ListN.{length, length-append}
-use borrow.Author.Tests.{lt-ltb, le-ltb, eq-eqb, ne-eqb}
+use borrow.Author.Tests.{lt-ltb, le-ltb, le-leb, lt-leb, eq-eqb, ne-eqb}
 use Rattle.bits.specs.Bits.{everySite}
 use Rattle.bits.specs.laws.BitLaws.{bits-below}
 use Rattle.site.specs.declared.CommitQuorum.{CommitQuorum}
 use Rattle.site.specs.declared.AbortQuorum.{AbortQuorum}
-use Rattle.world.specs.Sizes.{sizesNumber}
-use Rattle.world.specs.laws.SizesLaws.{Sized, sized}
+use Rattle.weights.specs.Weights.{evenWeights}
+use Rattle.world.specs.Sizes.{sitesFit, sizesNumber}
 use Rattle.command.specs.declared.Command.{Command}
 use Rattle.command.specs.declared.Command.the-variants as Command·
-use Rattle.header.specs.Headers.{headerSizes}
+use Rattle.header.specs.Headers.{headerSizes, firstSizes}
+use Rattle.header.specs.laws.FirstLaws.{FirstSized, first-sized}
 use Rattle.text.specs.laws.Written.{Written, joined}
 use Rattle.spelling.specs.Spelling.{headerBytes, commandBytes}
 use Rattle.spelling.specs.Ranges.{HeaderInRange}
@@ -121,24 +122,24 @@ pub all-written :
 unfolding quietList bytesOf
 all-written n c q w x y z = rw (quiet-bytes n) (joined w (joined (joined x y) z))
 
--- the sizes' number is the header's
+-- the sizes' number is the header's, where every site weighs 1
 pub quiet-number :
-    (n : ℕ) (c : CommitQuorum) (a : AbortQuorum) (number willing : ℕ) → number ≡ sizesNumber n c a willing → willing ≡ everySite n →
-    number ≡ headerSizes (quietHeader n c a)
-unfolding headerSizes quietHeader
-quiet-number n c a number willing e same = e ∙ ap (λ w. sizesNumber n c a w) same
+    (n : ℕ) (c : CommitQuorum) (a : AbortQuorum) (number willing : ℕ) (weights : List ℕ) → number ≡ sizesNumber n weights c a willing →
+    weights ≡ evenWeights n → willing ≡ everySite n → number ≡ firstSizes (quietHeader n c a)
+unfolding firstSizes headerSizes quietHeader
+quiet-number n c a number willing weights e even same = e ∙ ap (λ x. sizesNumber n x c a willing) even ∙ ap (λ w. sizesNumber n (evenWeights n) c a w) same
 
 -- sizes that meet no refusal
-module _ (n : ℕ) (c : CommitQuorum) (a : AbortQuorum) (good : headerSizes (quietHeader n c a) ≡ 0) where
-  pub quiet-sized : Sized n c a (everySite n)
-  unfolding headerSizes quietHeader
-  quiet-sized = sized n c a (everySite n) good
+module _ (n : ℕ) (c : CommitQuorum) (a : AbortQuorum) (good : firstSizes (quietHeader n c a) ≡ 0) where
+  pub quiet-sized : FirstSized n c a (everySite n)
+  unfolding quietHeader
+  quiet-sized = first-sized (quietHeader n c a) good
 
   -- are in range
   pub quiet-in-range : HeaderInRange (quietHeader n c a)
   unfolding quietHeader
   quiet-in-range =
-      let z : Sized n c a (everySite n) = quiet-sized in
+      let z : FirstSized n c a (everySite n) = quiet-sized in
       record {
         sites = omega (arith, z .high);
         commit = omega (arith, z .high, z .commit-below);
@@ -149,14 +150,14 @@ module _ (n : ℕ) (c : CommitQuorum) (a : AbortQuorum) (good : headerSizes (qui
 -- what each return of the call leaves
 module _ (n : ℕ) (c : CommitQuorum) (a : AbortQuorum) (b : List ℕ) where
   pub quiet-many : 16 < n → writeQuiet n c a b ≡ refuse 3 0 b
-  unfolding writeQuiet headerSizes quietHeader sizesNumber
-  quiet-many h = rw (le-ltb n 3 (omega arith), lt-ltb 16 n h)
+  unfolding writeQuiet firstSizes headerSizes quietHeader sizesNumber sitesFit
+  quiet-many h = rw (le-leb 3 n (omega arith), lt-leb n 16 h)
 
-  pub quiet-refused : (headerSizes (quietHeader n c a) ≡ 0 → ⊥) → writeQuiet n c a b ≡ refuse (headerSizes (quietHeader n c a)) 0 b
+  pub quiet-refused : (firstSizes (quietHeader n c a) ≡ 0 → ⊥) → writeQuiet n c a b ≡ refuse (firstSizes (quietHeader n c a)) 0 b
   unfolding writeQuiet
-  quiet-refused bad = rw (ne-eqb (headerSizes (quietHeader n c a)) 0 bad)
+  quiet-refused bad = rw (ne-eqb (firstSizes (quietHeader n c a)) 0 bad)
 
-  module _ (good : headerSizes (quietHeader n c a) ≡ 0) where
+  module _ (good : firstSizes (quietHeader n c a) ≡ 0) where
     long : length (quietList n c a) ≡ 10 + 24 * (n - 1)
     long = quiet-list-length n c a (omega (arith, quiet-sized n c a good .low))
 
@@ -164,7 +165,7 @@ module _ (n : ℕ) (c : CommitQuorum) (a : AbortQuorum) (b : List ℕ) where
     unfolding writeQuiet putOut
     quiet-room short =
         rw
-        (eq-eqb (headerSizes (quietHeader n c a)) 0 good, lt-ltb (length b) (length (quietList n c a)) (omega (arith, long)))
+        (eq-eqb (firstSizes (quietHeader n c a)) 0 good, lt-ltb (length b) (length (quietList n c a)) (omega (arith, long)))
 
     pub quiet-done :
         (after : List ℕ) (next : ℕ) → 10 + 24 * (n - 1) ≤ length b → Written b 0 (quietList n c a) after next →
@@ -172,4 +173,4 @@ module _ (n : ℕ) (c : CommitQuorum) (a : AbortQuorum) (b : List ℕ) where
     unfolding writeQuiet putOut
     quiet-done after next room w =
         rw
-        (eq-eqb (headerSizes (quietHeader n c a)) 0 good, le-ltb (length b) (length (quietList n c a)) (omega (arith, long)), w .holds, long)
+        (eq-eqb (firstSizes (quietHeader n c a)) 0 good, le-ltb (length b) (length (quietList n c a)) (omega (arith, long)), w .holds, long)

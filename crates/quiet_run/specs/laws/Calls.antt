@@ -23,11 +23,11 @@ use Rattle.play.specs.Run.{Ran}
 use Rattle.quiet.specs.Quiet.{rowTo, waited}
 use Rattle.quiet_run.specs.laws.Leads.{taken, Takes}
 
-module _ (n : ℕ) (c : CommitQuorum) (a : AbortQuorum) (willing : ℕ) where
+module _ (n : ℕ) (weights : List ℕ) (c : CommitQuorum) (a : AbortQuorum) (willing : ℕ) where
   -- a world of these sizes
   unfoldable pub worldWith : List Site → ℕ → ℕ → World
   worldWith sites rows news =
-      record { sites = sites; n = n; commit = c; abort = a; willing = willing; rows = rows; news = news }
+      record { sites = sites; n = n; commit = c; abort = a; willing = willing; weights = weights; rows = rows; news = news }
 
   pub world-same :
       (l k : List Site) (x y u v : ℕ) → l ≡ k → x ≡ y → u ≡ v → worldWith l x u ≡ worldWith k y v
@@ -95,7 +95,7 @@ module _ (n : ℕ) (c : CommitQuorum) (a : AbortQuorum) (willing : ℕ) where
   -- TIMEOUT at site 0
   pub timeout-row :
       (sites : List Site) (rows news : ℕ) (s : List ℕ) (m : Move) → 0 < n → siteOf (worldWith sites rows news) 0 .up ≡ true →
-      timeout 0 n c a (siteOf (worldWith sites rows news) 0) ≡ m → (m .step .row .kind ≡ 0 → ⊥) → rows < 1024 →
+      timeout 0 n weights c a (siteOf (worldWith sites rows news) 0) ≡ m → (m .step .row .kind ≡ 0 → ⊥) → rows < 1024 →
       news + m .step .news ≤ maxNews → Takes waited (worldWith sites rows news) s (withRow sites rows news s 0 m)
   unfolding perform waited timeoutCall worldWith
   timeout-row sites rows news s m some-site up moves some room low =

@@ -130,8 +130,8 @@ quiet-news : (m : ℕ) → newsAt ended m ≡ 4 * m + 2 * (m * m)
 unfolding newsAt roundNews toldOf
 quiet-news m = omega (arith, sum-times 1 m, sum-times m m)
 
-module _ (n m : ℕ) (c : CommitQuorum) (a : AbortQuorum) (willing : ℕ) (agreed : Agreed n m c willing) where
-  last-site : (j : ℕ) → j < n → siteOf (worldAt n m c a willing ended) j ≡ restAt n m ended j
+module _ (n m : ℕ) (weights : List ℕ) (c : CommitQuorum) (a : AbortQuorum) (willing : ℕ) (agreed : Agreed n m weights c willing) where
+  last-site : (j : ℕ) → j < n → siteOf (worldAt n m weights c a willing ended) j ≡ restAt n m ended j
   unfolding siteOf worldAt worldWith
   last-site j h = table-at (restAt n m ended) 16 j (blankSite false) (omega arith)
 
@@ -143,7 +143,7 @@ module _ (n m : ℕ) (c : CommitQuorum) (a : AbortQuorum) (willing : ℕ) (agree
       (λ z. rw (ne-eqb j 0 z, lt-ltb j n h) (record { prepared = refl; group = refl; outcome = refl }))
 
   pub ends-quietly :
-      (s : List ℕ) → 20480 ≤ length s → Quietly n (worldAt n m c a willing ended) (storeAt ended n m s) (quietRecords n)
+      (s : List ℕ) → 20480 ≤ length s → Quietly n (worldAt n m weights c a willing ended) (storeAt ended n m s) (quietRecords n)
   unfolding worldAt worldWith rowsAt storeAt kindOf replyOf
   ends-quietly s room =
       let others : m ≡ n - 1 = omega arith in

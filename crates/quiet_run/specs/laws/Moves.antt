@@ -1,16 +1,18 @@
 -- The rules at a quiet day's sites: what makes site 0 send its command, what the command makes of another site, what a reply makes of site 0.
 use Prim.Native.Nat.{ℕ, zero, suc, _*_, _≤_, _<_}
 use mathlib.Core.Bool.{true, false}
-use mathlib.Core.List.{[], _∷_}
+use mathlib.Core.List.{List, [], _∷_}
 use mathlib.Core.Path.{_≡_, refl, ap, _∙_}
 use native.Mathlib.Omega.{arith}
 use lib.Dec.{leb}
 use lib.ListN.{getD}
 use borrow.Author.Tests.{le-leb, eq-eqb}
 use Rattle.choice.specs.laws.ChoiceLaws.{pick-ind}
-use Rattle.choice.specs.laws.Stores.{sumTo, sum-times}
+use Rattle.choice.specs.Places.{sumTo}
+use Rattle.choice.specs.laws.Stores.{sum-times}
 use Rattle.vector.specs.Codes.{level, isOutcome}
-use Rattle.vector.specs.Vector.{siteWeight, count, lowestOutcome}
+use Rattle.weights.specs.Weights.{weightOf}
+use Rattle.vector.specs.Vector.{weigh, count, lowestOutcome}
 use Rattle.vector.specs.laws.VectorLaws.{lowest-found}
 use Rattle.merging.specs.Merging.{rises, merging}
 use Rattle.site.specs.declared.Site.{Site}
@@ -42,7 +44,6 @@ use Rattle.rules.specs.Rules.{
   afterHearing,
   deliver,
 }
-use Rattle.safety.specs.laws.Weights.{total-sites}
 use Rattle.quiet_run.specs.laws.Vectors.{codesOf, codes-at, weigh-all, lowest-of-none}
 use Rattle.quiet_run.specs.laws.Stages.{
   Round,
@@ -91,31 +92,30 @@ told-small r m few zero = omega arith
 told-small r m few (suc p) = omega (arith, told-small r m few p, told-most r m few)
 
 -- what makes site 0 send a round's command: START, then TIMEOUT twice
-unfoldable pub openingMove : Round → ℕ → CommitQuorum → AbortQuorum → Site → Move
-openingMove votes n c a s = start n true s
-openingMove joins n c a s = timeout 0 n c a s
-openingMove outcomes n c a s = timeout 0 n c a s
+unfoldable pub openingMove : Round → ℕ → List ℕ → CommitQuorum → AbortQuorum → Site → Move
+openingMove votes n weights c a s = start n true s
+openingMove joins n weights c a s = timeout 0 n weights c a s
+openingMove outcomes n weights c a s = timeout 0 n weights c a s
 
 module _ (n m : ℕ) (size : n ≡ suc m) (few : n ≤ 16) where
   -- where all n entries are one code
-  all-counted : (code y : ℕ) → count n (codesOf n (heard m code y)) code ≡ sumTo siteWeight n
-  unfolding count
-  all-counted code y =
-      weigh-all siteWeight n (codesOf n (heard m code y)) code
+  all-weighed : (weight : ℕ → ℕ) (code y : ℕ) → weigh weight n (codesOf n (heard m code y)) code ≡ sumTo weight n
+  all-weighed weight code y =
+      weigh-all weight n (codesOf n (heard m code y)) code
       (λ k h. codes-at n (heard m code y) k few h ∙ heard-low m code y k (omega arith))
 
   -- THE COMMAND is sent
   pub opening-move :
-      (r : Round) (c : CommitQuorum) (a : AbortQuorum) → c .0 ≤ sumTo siteWeight n →
-      openingMove r n c a (coordinatorAt n (from r) m)
+      (r : Round) (weights : List ℕ) (c : CommitQuorum) (a : AbortQuorum) → c .0 ≤ sumTo (weightOf weights) n →
+      openingMove r n weights c a (coordinatorAt n (from r) m)
       ≡ commanding (kindOf r) 0 n (coordinatorAt n (to r) 0) (wrote 0 (recordOf r) ∷ [])
-  unfolding openingMove start from to kindOf recordOf coordinatorAt siteIn preparedIn groupIn joinedIn outcomeIn leadsIn ownCode restCode commanding commandRow withCoordinator writePrepare withPrepared withOwn withCodes timeout timeoutIn stateOf stateBy chooseGroup decideCommit commitReached joinGroup withGroup groupOf recordCode writeOutcome withOutcome outcomeOf
-  opening-move votes c a reach = rw (opened n 0 0 1 few (climbs votes) m size)
-  opening-move joins c a reach =
-      rw (eq-eqb (count n (codesOf n (heard m 1 0)) 1) n (all-counted 1 0 ∙ total-sites n))
+  unfolding openingMove start from to kindOf recordOf coordinatorAt siteIn preparedIn groupIn joinedIn outcomeIn leadsIn ownCode restCode commanding commandRow withCoordinator writePrepare withPrepared withOwn withCodes timeout timeoutIn stateOf stateBy chooseGroup count decideCommit commitReached joinGroup withGroup groupOf recordCode writeOutcome withOutcome outcomeOf
+  opening-move votes weights c a reach = rw (opened n 0 0 1 few (climbs votes) m size)
+  opening-move joins weights c a reach =
+      rw (eq-eqb (count n (codesOf n (heard m 1 0)) 1) n (omega (arith, all-weighed (λ _. 1) 1 0, sum-times 1 n)))
       (rw (opened n 0 1 2 few (climbs joins) m size))
-  opening-move outcomes c a reach =
-      rw (le-leb (c .0) (count n (codesOf n (heard m 2 1)) 2) (omega (arith, all-counted 2 1)))
+  opening-move outcomes weights c a reach =
+      rw (le-leb (c .0) (weigh (weightOf weights) n (codesOf n (heard m 2 1)) 2) (omega (arith, all-weighed (weightOf weights) 2 1)))
       (rw (opened n 1 2 4 few (climbs outcomes) m size))
 
   -- no site has shown an outcome

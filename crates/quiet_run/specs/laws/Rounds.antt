@@ -7,7 +7,8 @@ use lib.ListN.{set}
 use borrow.Author.Tests.{ltb-true, ltb-false}
 use Rattle.choice.specs.Choice.{pick}
 use Rattle.choice.specs.laws.Cases.{by-test, by-equal}
-use Rattle.choice.specs.laws.Stores.{sumTo, sum-but, sum-times}
+use Rattle.choice.specs.Places.{sumTo}
+use Rattle.choice.specs.laws.Stores.{sum-but, sum-times}
 use Rattle.merging.specs.Merging.{rises, mergeEntry, merging}
 use Rattle.quiet_run.specs.laws.Vectors.{codesOf, codes-set, codes-merged}
 use Rattle.quiet_run.specs.laws.Tellings.{telling, telling-own, telling-other, codes-news}

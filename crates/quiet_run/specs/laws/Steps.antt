@@ -6,8 +6,8 @@ use mathlib.Core.List.{List, [], _∷_}
 use mathlib.Core.Path.{_≡_, refl, ap, sym, subst, _∙_}
 use native.Mathlib.Omega.{arith}
 use lib.ListN.{length, set}
-use Rattle.choice.specs.laws.Stores.{sumTo}
-use Rattle.vector.specs.Vector.{siteWeight}
+use Rattle.choice.specs.Places.{sumTo}
+use Rattle.weights.specs.Weights.{weightOf}
 use Rattle.bits.specs.Bits.{hasBit, onlySite}
 use Rattle.row.specs.Rows.{noRow, getRow, rowKnown}
 use Rattle.site.specs.declared.CommitQuorum.{CommitQuorum}
@@ -57,11 +57,11 @@ takes-as : {c : Command} {w : World} {s : List ℕ} {r t : Ran} → r ≡ t → 
 takes-as {c} {w} {s} e k = subst (Takes c w s) e k
 
 -- the sizes of a quiet day: m others beside site 0, all of them willing, and a commit quorum that all sites together reach
-pub record Agreed (n m : ℕ) (c : CommitQuorum) (willing : ℕ) : Type 0 where
+pub record Agreed (n m : ℕ) (weights : List ℕ) (c : CommitQuorum) (willing : ℕ) : Type 0 where
   pub size : n ≡ suc m
   pub few : n ≤ 16
   pub will : (j : ℕ) → j < n → hasBit willing j ≡ true
-  pub reach : c .0 ≤ sumTo siteWeight n
+  pub reach : c .0 ≤ sumTo (weightOf weights) n
 
 -- a round's place in the day: its command is row k of the store s, and so much was told before. There is room for all of it
 pub record Room (n k : ℕ) (s : List ℕ) (news : ℕ) : Type 0 where
@@ -81,19 +81,19 @@ opens-quietly : (n : ℕ) (r : Round) (news : ℕ) → news ≤ 1000 → news + 
 unfolding openingSent commanding
 opens-quietly n r news low = omega arith
 
-module _ (n m : ℕ) (c : CommitQuorum) (a : AbortQuorum) (willing : ℕ) (r : Round) (k : ℕ) (s : List ℕ) (news : ℕ) where
+module _ (n m : ℕ) (weights : List ℕ) (c : CommitQuorum) (a : AbortQuorum) (willing : ℕ) (r : Round) (k : ℕ) (s : List ℕ) (news : ℕ) where
   -- the world after p commands and q replies, and what a call leaves that comes there
   unfoldable pub inRound : ℕ → ℕ → World
-  inRound p q = worldWith n c a willing (table (siteAt n m r p q) 16) (k + suc p) (news + (sumTo (λ _. toldOf r m) p + q))
+  inRound p q = worldWith n weights c a willing (table (siteAt n m r p q) 16) (k + suc p) (news + (sumTo (λ _. toldOf r m) p + q))
 
   unfoldable pub comesTo : ℕ → ℕ → List Written → ℕ → Ran
   comesTo p q H told = record { world = inRound p q; store = sentTo n r k s p; records = H; news = told }
 
   -- the world before the round
   unfoldable pub atRest : World
-  atRest = worldWith n c a willing (table (restAt n m (from r)) 16) k news
+  atRest = worldWith n weights c a willing (table (restAt n m (from r)) 16) k news
 
-  module _ (agreed : Agreed n m c willing) (place : Room n k s news) where
+  module _ (agreed : Agreed n m weights c willing) (place : Room n k s news) where
     -- a site of it
     site-in : (p q j : ℕ) → j < n → siteOf (inRound p q) j ≡ siteAt n m r p q j
     unfolding siteOf inRound worldWith
@@ -105,7 +105,7 @@ module _ (n m : ℕ) (c : CommitQuorum) (a : AbortQuorum) (willing : ℕ) (r : R
     unfolding inRound comesTo withRow sentTo replyFrom sumTo bringing replying replyRow commandOf commandRow subordinateAt siteIn
     command-step p q less most =
         takes-as moved
-        (deliver-row n c a willing (table (siteAt n m r p q) 16) (k + suc p) then (sentTo n r k s p) k (suc p) (omega arith) (omega arith)
+        (deliver-row n weights c a willing (table (siteAt n m r p q) 16) (k + suc p) then (sentTo n r k s p) k (suc p) (omega arith) (omega arith)
         (ap (rowKnown n) row ∙ command-known n (agreed .few) (omega arith) r) (ap (λ x. hasBit (x .destinations) (suc p)) row ∙ sent) (agreed .will (suc p) (omega arith))
         (ap (λ x. x .up) here ∙ up) move moves low some (omega arith))
       where
@@ -139,12 +139,12 @@ module _ (n m : ℕ) (c : CommitQuorum) (a : AbortQuorum) (willing : ℕ) (r : R
         some z = omega (arith, kind-small r .2)
 
         moved :
-            withRow n c a willing (table (siteAt n m r p q) 16) (k + suc p) then (sentTo n r k s p) (suc p) move
+            withRow n weights c a willing (table (siteAt n m r p q) 16) (k + suc p) then (sentTo n r k s p) (suc p) move
             ≡ comesTo (suc p) q (wrote (suc p) (recordOf r) ∷ []) (toldOf r m)
         moved =
-            ran-same (withRow n c a willing (table (siteAt n m r p q) 16) (k + suc p) then (sentTo n r k s p) (suc p) move)
+            ran-same (withRow n weights c a willing (table (siteAt n m r p q) 16) (k + suc p) then (sentTo n r k s p) (suc p) move)
             (comesTo (suc p) q (wrote (suc p) (recordOf r) ∷ []) (toldOf r m))
-            (world-same n c a willing (set (table (siteAt n m r p q) 16) (suc p) (subordinateAt n (to r) (suc p))) (table (siteAt n m r (suc p) q) 16)
+            (world-same n weights c a willing (set (table (siteAt n m r p q) 16) (suc p) (subordinateAt n (to r) (suc p))) (table (siteAt n m r (suc p) q) 16)
             (k + suc p + 1) (k + suc (suc p)) (then + toldOf r m) (news + (sumTo (λ _. toldOf r m) (suc p) + q))
             (table-set (blankSite false) (siteAt n m r p q) (siteAt n m r (suc p) q) 16 (suc p) (subordinateAt n (to r) (suc p)) (omega arith)
             (sym (at-moved n m r (suc p) q (suc p) (λ z. omega arith) (omega arith) (omega arith))) (λ j h e. command-leaves n m r p q j e))
@@ -157,7 +157,7 @@ module _ (n m : ℕ) (c : CommitQuorum) (a : AbortQuorum) (willing : ℕ) (r : R
     unfolding inRound comesTo withoutRow replyFrom bringing silent noRow replyRow coordinatorAt siteIn onlySite hasBit
     reply-step p q less most =
         takes-as moved
-        (deliver-silent n c a willing (table (siteAt n m r p q) 16) (k + suc p) then (sentTo n r k s p) (k + suc q) 0 (omega arith) (omega arith)
+        (deliver-silent n weights c a willing (table (siteAt n m r p q) 16) (k + suc p) then (sentTo n r k s p) (k + suc q) 0 (omega arith) (omega arith)
         (ap (rowKnown n) row ∙ reply-known n (agreed .few) r (suc q) (omega arith)) (ap (λ x. hasBit (x .destinations) 0) row) (agreed .will 0 (omega arith))
         (ap (λ x. x .up) here) move moves (omega (arith, told-small r m (omega arith) p)) refl)
       where
@@ -179,10 +179,10 @@ module _ (n m : ℕ) (c : CommitQuorum) (a : AbortQuorum) (willing : ℕ) (r : R
             ∙ reply-move n m (agreed .size) (agreed .few) r q (omega arith)
 
         moved :
-            withoutRow n c a willing (table (siteAt n m r p q) 16) (k + suc p) then (sentTo n r k s p) 0 move ≡ comesTo p (suc q) [] 1
+            withoutRow n weights c a willing (table (siteAt n m r p q) 16) (k + suc p) then (sentTo n r k s p) 0 move ≡ comesTo p (suc q) [] 1
         moved =
-            ran-same (withoutRow n c a willing (table (siteAt n m r p q) 16) (k + suc p) then (sentTo n r k s p) 0 move) (comesTo p (suc q) [] 1)
-            (world-same n c a willing (set (table (siteAt n m r p q) 16) 0 (coordinatorAt n (to r) (suc q))) (table (siteAt n m r p (suc q)) 16)
+            ran-same (withoutRow n weights c a willing (table (siteAt n m r p q) 16) (k + suc p) then (sentTo n r k s p) 0 move) (comesTo p (suc q) [] 1)
+            (world-same n weights c a willing (set (table (siteAt n m r p q) 16) 0 (coordinatorAt n (to r) (suc q))) (table (siteAt n m r p (suc q)) 16)
             (k + suc p) (k + suc p) (then + 1) (news + (sumTo (λ _. toldOf r m) p + suc q))
             (table-set (blankSite false) (siteAt n m r p q) (siteAt n m r p (suc q)) 16 0 (coordinatorAt n (to r) (suc q)) (omega arith)
             (sym (at-first n m r p (suc q))) (λ j h e. reply-leaves n m r p q j e))
@@ -199,46 +199,46 @@ module _ (n m : ℕ) (c : CommitQuorum) (a : AbortQuorum) (willing : ℕ) (r : R
     unfolding coordinatorAt siteIn
     rest-up = ap (λ x. x .up) rest-first
 
-    opens : openingMove r n c a (siteOf atRest 0) ≡ openingSent n r
+    opens : openingMove r n weights c a (siteOf atRest 0) ≡ openingSent n r
     unfolding openingSent
-    opens = ap (openingMove r n c a) rest-first ∙ opening-move n m (agreed .size) (agreed .few) r c a (agreed .reach)
+    opens = ap (openingMove r n weights c a) rest-first ∙ opening-move n m (agreed .size) (agreed .few) r weights c a (agreed .reach)
 
     opened-to :
-        withRow n c a willing (table (restAt n m (from r)) 16) k news s 0 (openingSent n r) ≡ comesTo 0 0 (wrote 0 (recordOf r) ∷ []) 0
+        withRow n weights c a willing (table (restAt n m (from r)) 16) k news s 0 (openingSent n r) ≡ comesTo 0 0 (wrote 0 (recordOf r) ∷ []) 0
     unfolding openingSent withRow comesTo inRound sentTo commandOf commanding sumTo
     opened-to =
-        ran-same (withRow n c a willing (table (restAt n m (from r)) 16) k news s 0 (openingSent n r)) (comesTo 0 0 (wrote 0 (recordOf r) ∷ []) 0)
-        (world-same n c a willing (set (table (restAt n m (from r)) 16) 0 (coordinatorAt n (to r) 0)) (table (siteAt n m r 0 0) 16) (k + 1) (k + suc 0)
+        ran-same (withRow n weights c a willing (table (restAt n m (from r)) 16) k news s 0 (openingSent n r)) (comesTo 0 0 (wrote 0 (recordOf r) ∷ []) 0)
+        (world-same n weights c a willing (set (table (restAt n m (from r)) 16) 0 (coordinatorAt n (to r) 0)) (table (siteAt n m r 0 0) 16) (k + 1) (k + suc 0)
         (news + 0) (news + (0 + 0))
         (table-set (blankSite false) (restAt n m (from r)) (siteAt n m r 0 0) 16 0 (coordinatorAt n (to r) 0) (omega arith) (sym (at-first n m r 0 0))
         (λ j h e. rest-opens n m r j e))
         (omega arith) (omega arith))
         refl refl refl
 
-module _ (n m : ℕ) (c : CommitQuorum) (a : AbortQuorum) (willing : ℕ) (agreed : Agreed n m c willing) where
+module _ (n m : ℕ) (weights : List ℕ) (c : CommitQuorum) (a : AbortQuorum) (willing : ℕ) (agreed : Agreed n m weights c willing) where
   rest-active :
-      (k : ℕ) (s : List ℕ) (news : ℕ) → Room n k s news → isActive (stateOf (siteOf (atRest n m c a willing votes k s news) 0)) ≡ true
+      (k : ℕ) (s : List ℕ) (news : ℕ) → Room n k s news → isActive (stateOf (siteOf (atRest n m weights c a willing votes k s news) 0)) ≡ true
   unfolding from coordinatorAt siteIn preparedIn groupIn outcomeIn stateOf stateBy isActive
-  rest-active k s news place = ap (λ x. isActive (stateOf x)) (rest-first n m c a willing votes k s news agreed place)
+  rest-active k s news place = ap (λ x. isActive (stateOf x)) (rest-first n m weights c a willing votes k s news agreed place)
 
   pub opening-step :
       (r : Round) (k : ℕ) (s : List ℕ) (news : ℕ) → Room n k s news →
-      Takes (openingOf r) (atRest n m c a willing r k s news) s (comesTo n m c a willing r k s news 0 0 (wrote 0 (recordOf r) ∷ []) 0)
+      Takes (openingOf r) (atRest n m weights c a willing r k s news) s (comesTo n m weights c a willing r k s news 0 0 (wrote 0 (recordOf r) ∷ []) 0)
   unfolding openingOf atRest openingMove
   opening-step votes k s news place =
-      takes-as (opened-to n m c a willing votes k s news agreed place)
-      (start-row n c a willing (table (restAt n m (from votes)) 16) k news s (openingSent n votes)
-      (rest-up n m c a willing votes k s news agreed place)
+      takes-as (opened-to n m weights c a willing votes k s news agreed place)
+      (start-row n weights c a willing (table (restAt n m (from votes)) 16) k news s (openingSent n votes)
+      (rest-up n m weights c a willing votes k s news agreed place)
       (rest-active k s news place)
-      (agreed .will 0 (omega arith)) (opens n m c a willing votes k s news agreed place) (sends n votes)
+      (agreed .will 0 (omega arith)) (opens n m weights c a willing votes k s news agreed place) (sends n votes)
       (omega (arith, place .rows, agreed .size)) (opens-quietly n votes news (place .low)))
   opening-step joins k s news place =
-      takes-as (opened-to n m c a willing joins k s news agreed place)
-      (timeout-row n c a willing (table (restAt n m (from joins)) 16) k news s (openingSent n joins) (omega arith)
-      (rest-up n m c a willing joins k s news agreed place) (opens n m c a willing joins k s news agreed place) (sends n joins)
+      takes-as (opened-to n m weights c a willing joins k s news agreed place)
+      (timeout-row n weights c a willing (table (restAt n m (from joins)) 16) k news s (openingSent n joins) (omega arith)
+      (rest-up n m weights c a willing joins k s news agreed place) (opens n m weights c a willing joins k s news agreed place) (sends n joins)
       (omega (arith, place .rows, agreed .size)) (opens-quietly n joins news (place .low)))
   opening-step outcomes k s news place =
-      takes-as (opened-to n m c a willing outcomes k s news agreed place)
-      (timeout-row n c a willing (table (restAt n m (from outcomes)) 16) k news s (openingSent n outcomes) (omega arith)
-      (rest-up n m c a willing outcomes k s news agreed place) (opens n m c a willing outcomes k s news agreed place) (sends n outcomes)
+      takes-as (opened-to n m weights c a willing outcomes k s news agreed place)
+      (timeout-row n weights c a willing (table (restAt n m (from outcomes)) 16) k news s (openingSent n outcomes) (omega arith)
+      (rest-up n m weights c a willing outcomes k s news agreed place) (opens n m weights c a willing outcomes k s news agreed place) (sends n outcomes)
       (omega (arith, place .rows, agreed .size)) (opens-quietly n outcomes news (place .low)))

@@ -7,7 +7,8 @@ use borrow.Author.Tests.{eq-eqb, ne-eqb}
 use Rattle.choice.specs.Choice.{pick}
 use Rattle.choice.specs.laws.ChoiceLaws.{pick-on, pick-off}
 use Rattle.choice.specs.laws.Cases.{by-equal}
-use Rattle.choice.specs.laws.Stores.{sumTo, sum-same}
+use Rattle.choice.specs.Places.{sumTo}
+use Rattle.choice.specs.laws.Stores.{sum-same}
 use Rattle.merging.specs.Merging.{rises, isOther, merging}
 use Rattle.merging.specs.laws.Orders.{other-on, other-own}
 use Rattle.merging.specs.laws.News.{gain, share, risen, merging-news}

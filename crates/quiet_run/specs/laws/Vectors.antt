@@ -10,7 +10,7 @@ use borrow.Author.Tests.{lt-ltb, le-ltb, le-leb, ltb-true, ltb-false, eq-eqb}
 use Rattle.choice.specs.Choice.{pick}
 use Rattle.choice.specs.laws.ChoiceLaws.{pick-on, pick-off, both-on}
 use Rattle.choice.specs.laws.Cases.{by-test, by-equal}
-use Rattle.choice.specs.laws.Stores.{sumTo}
+use Rattle.choice.specs.Places.{sumTo}
 use Rattle.vector.specs.Codes.{isOutcome}
 use Rattle.vector.specs.Vector.{entryWeight, weigh, lowestOutcome}
 use Rattle.vector.specs.laws.VectorLaws.{lowest-none}

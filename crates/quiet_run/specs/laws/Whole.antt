@@ -9,7 +9,7 @@ use lib.ListN.{length}
 use borrow.Author.Tests.{lt-ltb, ne-eqb}
 use Rattle.choice.specs.Choice.{pick}
 use Rattle.choice.specs.laws.Cases.{by-test, by-equal}
-use Rattle.choice.specs.laws.Stores.{sumTo}
+use Rattle.choice.specs.Places.{sumTo}
 use Rattle.site.specs.declared.CommitQuorum.{CommitQuorum}
 use Rattle.site.specs.declared.AbortQuorum.{AbortQuorum}
 use Rattle.site.specs.Fields.{blankSite}
@@ -97,24 +97,24 @@ blank-other : (n j : ℕ) → subordinateAt n fresh j ≡ blankSite true
 unfolding subordinateAt siteIn preparedIn groupIn joinedIn outcomeIn leadsIn ownCode restCode blankSite
 blank-other n j = rw (← codes-zero n (knows j 0 0) (λ k h. knows-same j 0 k))
 
-module _ (n m : ℕ) (c : CommitQuorum) (a : AbortQuorum) (willing : ℕ) where
+module _ (n m : ℕ) (weights : List ℕ) (c : CommitQuorum) (a : AbortQuorum) (willing : ℕ) where
   -- the world at a stage, and what the whole run leaves
   unfoldable pub worldAt : Stage → World
-  worldAt stage = worldWith n c a willing (table (restAt n m stage) 16) (rowsAt stage n) (newsAt stage m)
+  worldAt stage = worldWith n weights c a willing (table (restAt n m stage) 16) (rowsAt stage n) (newsAt stage m)
 
   unfoldable pub quietEnd : List ℕ → Ran
   quietEnd s = record { world = worldAt ended; store = storeAt ended n m s; records = quietRecords n; news = newsAt ended m }
 
-module _ (n m : ℕ) (c : CommitQuorum) (a : AbortQuorum) (willing : ℕ) (agreed : Agreed n m c willing) where
+module _ (n m : ℕ) (weights : List ℕ) (c : CommitQuorum) (a : AbortQuorum) (willing : ℕ) (agreed : Agreed n m weights c willing) where
   abbrev stands : Stage → World
-  stands stage = worldAt n m c a willing stage
+  stands stage = worldAt n m weights c a willing stage
 
   -- the fresh world is the first
-  pub fresh-is : sizesNumber n c a willing ≡ 0 → freshWorld n c a willing ≡ stands fresh
+  pub fresh-is : sizesNumber n weights c a willing ≡ 0 → freshWorld n weights c a willing ≡ stands fresh
   unfolding newWorld worldAt worldWith rowsAt newsAt restAt
   fresh-is e =
-      fresh-new n c a willing e
-      ∙ world-same n c a willing (freshSites n) (table (restAt n m fresh) 16) 0 0 0 0
+      fresh-new n weights c a willing e
+      ∙ world-same n weights c a willing (freshSites n) (table (restAt n m fresh) 16) 0 0 0 0
       (table-is (blankSite false) (restAt n m fresh) 16 (freshSites n) (fresh-length n) (λ j h. fresh-at n j (agreed .few) h ∙ blank j)) refl refl
     where
       blank : (j : ℕ) → pick (ltb j n) (blankSite true) (blankSite false) ≡ restAt n m fresh j
@@ -168,12 +168,12 @@ module _ (n m : ℕ) (c : CommitQuorum) (a : AbortQuorum) (willing : ℕ) (agree
   -- where a round leaves the world: at rest again
   round-done :
       (r : Round) (s : List ℕ) (H : List Written) (told : ℕ) →
-      comesTo n m c a willing r (rowsAt (from r) n) (storeAt (from r) n m s) (newsAt (from r) m) m m H told
+      comesTo n m weights c a willing r (rowsAt (from r) n) (storeAt (from r) n m s) (newsAt (from r) m) m m H told
       ≡ record { world = stands (to r); store = storeAt (to r) n m s; records = H; news = told }
   unfolding comesTo inRound worldAt roundNews
   round-done r s H told =
       ran-same _ (record { world = stands (to r); store = storeAt (to r) n m s; records = H; news = told })
-      (world-same n c a willing (table (siteAt n m r m m) 16) (table (restAt n m (to r)) 16) (rowsAt (from r) n + suc m) (rowsAt (to r) n)
+      (world-same n weights c a willing (table (siteAt n m r m m) 16) (table (restAt n m (to r)) 16) (rowsAt (from r) n + suc m) (rowsAt (to r) n)
       (newsAt (from r) m + (sumTo (λ _. toldOf r m) m + m)) (newsAt (to r) m)
       (table-same (blankSite false) (siteAt n m r m m) (restAt n m (to r)) 16 (λ j h. all-at-rest n m (agreed .size) r j))
       (next-rows r) (next-news r))
@@ -183,8 +183,8 @@ module _ (n m : ℕ) (c : CommitQuorum) (a : AbortQuorum) (willing : ℕ) (agree
   abbrev pub InOrder : (ℕ → ℕ → List Command) → Type 0
   InOrder order =
       (r : Round) (k : ℕ) (s : List ℕ) (news : ℕ) → Room n k s news →
-      Leads (openingOf r ∷ order k m) (atRest n m c a willing r k s news) s
-      (comesTo n m c a willing r k s news m m (eachWrote (recordOf r) (suc m)) (roundNews r m))
+      Leads (openingOf r ∷ order k m) (atRest n m weights c a willing r k s news) s
+      (comesTo n m weights c a willing r k s news m m (eachWrote (recordOf r) (suc m)) (roundNews r m))
 
   module _ (order : ℕ → ℕ → List Command) (rounds : InOrder order) (s : List ℕ) (room : 20480 ≤ length s) where
     round-leads :
@@ -200,12 +200,12 @@ module _ (n m : ℕ) (c : CommitQuorum) (a : AbortQuorum) (willing : ℕ) (agree
         (rounds r (rowsAt (from r) n) (storeAt (from r) n m s) (newsAt (from r) m) (room-for r s room))
 
     -- THE WHOLE RUN
-    pub whole-leads : Leads (quietIn order n) (stands fresh) s (quietEnd n m c a willing s)
+    pub whole-leads : Leads (quietIn order n) (stands fresh) s (quietEnd n m weights c a willing s)
     unfolding quietIn andThen quietEnd quietRecords from to recordOf openingOf rowsAt storeAt newsAt
     whole-leads =
         let others : m ≡ n - 1 = omega arith in
         subst
         (λ x. Leads (exchange order Command·.Start 0 x ++ exchange order waited n x ++ exchange order waited (2 * n) x) (stands fresh) s
-        (quietEnd n m c a willing s))
+        (quietEnd n m weights c a willing s))
         others
         (leads-on _ _ (leads-on _ _ (round-leads votes) (round-leads joins)) (round-leads outcomes))

@@ -1,51 +1,70 @@
 -- The theorems of worlds that cross to C.
-use Prim.Native.Nat.{ℕ, zero, suc, _+_, _≤_}
+use Prim.Native.Nat.{ℕ, zero, suc, _+_, _≤_, _<_}
 use mathlib.Core.Bool.{true}
 use mathlib.Core.List.{List, [], _∷_}
-use mathlib.Core.Path.{_≡_}
+use mathlib.Core.Path.{_≡_, refl, ap, _∙_}
 use native.Mathlib.Omega.{arith}
 use lib.Dec.{ltb, eqb}
-use lib.ListN.{length}
+use lib.ListN.{length, getD, getD-replicate, replicate}
 use borrow.Author.Tests.{ltb-true, ltb-false, eqb-true, ne-eqb}
 use Rattle.choice.specs.Choice.{pick}
 use Rattle.choice.specs.laws.ChoiceLaws.{pick-ind}
 use Rattle.choice.specs.laws.Cases.{by-test, by-equal}
+use Rattle.choice.specs.laws.Stores.{stored-length}
+use Rattle.weights.specs.Weights.{weightOf, weightsBy, evenWeights}
+use Rattle.weights.specs.laws.WeightLaws.{Weighed, weighed, rest-most}
 use Rattle.bits.specs.laws.BitLaws.{bits-below}
 use Rattle.world.specs.declared.World.{World}
-use Rattle.world.specs.Sizes.{storeBytes, sizesNumber}
+use Rattle.world.specs.Sizes.{storeBytes, sitesFit, sizesNumber}
 use Rattle.world.specs.laws.SizesLaws.{Sized}
 use Rattle.world.specs.Worlds.{zeroWorld, freshWorld}
 use Rattle.world.specs.Valid.{validWorld}
 use Rattle.world.specs.laws.WorldLaws.{valid-parts, valid-sized}
-use Rattle.header.specs.Headers.{headerNumber, headerWorld}
+use Rattle.header.specs.Headers.{isSecond, headerOf, headerWeights, headerLength, headerNumber, headerWorld}
 use Rattle.header.specs.laws.HeaderLaws.{headed}
 use Rattle.play.specs.Calls.{Call, refuse}
 use Rattle.play.specs.Commands.{oneCommand}
 use Rattle.play.specs.Run.{Ask}
 use Rattle.safety.specs.Claims.{Shaped}
-use Rattle.safety.specs.laws.Shape.{shaped-fresh}
+use Rattle.safety.specs.laws.Shape.{shaped-fresh, shaped-kept}
+use Rattle.safety.specs.laws.Unchanging.{accepted-keeps-the-rest}
 use Rattle.list.specs.Play.{Play, stopped, afterAsk, askAt, playFrom, refusedList, playList}
 use Rattle.list.specs.laws.PlayLaws.{play-ind, Further, further-one}
 use Rattle.list.specs.laws.HeaderLaws.{header-valid, header-shaped}
 use Rattle.list.specs.laws.CommandLaws.{next-valid}
 use Rattle.layout.specs.Layout.{worldBytes, putWorld, worldAt, inLayout}
 use Rattle.layout.specs.Claims.{Fits}
-use Rattle.layout.specs.laws.LayoutLaws.{world-read-back, written-inside, inside-exact, read-sites, read-codes, read-joined}
+use Rattle.layout.specs.laws.LayoutLaws.{world-read-back, written-inside, inside-exact, read-sites, read-codes, read-joined, read-weights}
 use Rattle.calls.specs.Calls.{resultBytes, leave, leavePlay}
 use Rattle.calls.specs.laws.CallLaws.{list-plays, command-16, command-17-result, command-17-world, command-refused, command-accepted}
 use Rattle.quorum.specs.Claims.{Holds, ListCrosses, CommandCrosses, Small, ResultFits}
 
+-- each of the sixteen weights that 21 lets pass is a byte
+weight-fits : (n : ℕ) (weights : List ℕ) → Weighed n weights → (j : ℕ) → j < 16 → getD weights j 0 < 256
+unfolding weightOf
+weight-fits n weights w j h =
+    by-test (ltb j n) (λ below. omega (arith, w .few j (ltb-true j n below) h)) (λ past. omega (arith, w .none j (ltb-false j n past) h))
+
+-- what 17 does not ask: sixteen sites with their vectors, and sixteen weights
+record Whole (w : World) : Type 0 where
+  shaped : Shaped w
+  weights : length (w .weights) ≡ 16
+
 -- a world that passes 17 has numbers that fit their fields
-valid-fits : (w : World) → Shaped w → validWorld w ≡ true → Fits w
-valid-fits w shaped valid =
-    let z : Sized (w .n) (w .commit) (w .abort) (w .willing) = valid-sized w valid in
+valid-fits : (w : World) → Whole w → validWorld w ≡ true → Fits w
+valid-fits w whole valid =
+    let shaped : Shaped w = whole .shaped in
+    let z : Sized (w .n) (w .weights) (w .commit) (w .abort) (w .willing) = valid-sized w valid in
+    let weights : Weighed (w .n) (w .weights) = weighed (w .n) (w .weights) (z .weighed) in
     record {
       sites = shaped .sites;
       codes = shaped .codes;
       joined = shaped .joined;
+      weights = whole .weights;
+      weights-fit = weight-fits (w .n) (w .weights) weights;
       n-fits = omega (arith, z .high);
-      commit-fits = omega (arith, z .high, z .commit-below);
-      abort-fits = omega (arith, z .high, z .abort-below);
+      commit-fits = omega (arith, z .commit-most, rest-most (w .n) (w .weights) weights);
+      abort-fits = omega (arith, z .abort-most, rest-most (w .n) (w .weights) weights);
       willing-fits = omega (arith, z .willing-below, bits-below (w .n) (z .high));
       rows-fit = omega (arith, valid-parts w valid .rows);
       news-fits = omega (arith, valid-parts w valid .news);
@@ -53,8 +72,8 @@ valid-fits w shaped valid =
 
 -- the world of zeros fits too: it is the maker's for sizes 0
 zero-shaped : Shaped zeroWorld
-unfolding freshWorld sizesNumber
-zero-shaped = shaped-fresh 0 (record { 0 = 0 }) (record { 0 = 0 }) 0
+unfolding freshWorld sizesNumber sitesFit
+zero-shaped = shaped-fresh 0 (replicate 16 0) (record { 0 = 0 }) (record { 0 = 0 }) 0
 
 zero-fits : Fits zeroWorld
 unfolding zeroWorld
@@ -63,6 +82,8 @@ zero-fits =
       sites = zero-shaped .sites;
       codes = zero-shaped .codes;
       joined = zero-shaped .joined;
+      weights = refl;
+      weights-fit = λ j h. omega (arith, getD-replicate {A = ℕ} 16 j 0 0 h);
       n-fits = omega arith;
       commit-fits = omega arith;
       abort-fits = omega arith;
@@ -87,34 +108,61 @@ crossing-after : (list : List ℕ) (ask : Ask) (p : Play) → Crossing list p �
 unfolding afterAsk
 crossing-after list ask p q = record { world = q .world; place = q .place; events = q .events }
 
+-- an accepted command leaves the weights
+next-whole :
+    (w : World) (store list : List ℕ) (at : ℕ) → Whole w → oneCommand w store list at .number ≡ 0 →
+    Whole (oneCommand w store list at .world)
+next-whole w store list at whole e =
+    record {
+      shaped = shaped-kept w store list at (whole .shaped);
+      weights = ap length (accepted-keeps-the-rest w store list at e .same-weights) ∙ whole .weights;
+    }
+
 from-crossing :
     (fuel : ℕ) (w : World) (store list : List ℕ) (at events : ℕ) → at ≤ length list → events ≤ at → storeBytes ≤ length store →
-    validWorld w ≡ true → Shaped w → Crossing list (playFrom fuel w store list at events)
+    validWorld w ≡ true → Whole w → Crossing list (playFrom fuel w store list at events)
 unfolding playFrom
-from-crossing zero w store list at events h few room valid shaped =
-    crossing-stopped 0 w store list at events [] (valid-fits w shaped valid) h few
-from-crossing (suc fuel) w store list at events h few room valid shaped =
+from-crossing zero w store list at events h few room valid whole =
+    crossing-stopped 0 w store list at events [] (valid-fits w whole valid) h few
+from-crossing (suc fuel) w store list at events h few room valid whole =
     let c : Call = oneCommand w store list at in
     play-ind (Crossing list) fuel w store list at events
-    (λ l. crossing-stopped 0 w store list at events [] (valid-fits w shaped valid) h few)
-    (λ _ e. crossing-stopped (c .number) w store list at events (askAt list at ∷ []) (valid-fits w shaped valid) h few)
-    (λ _ e. let k : Further list at c = further-one w store list at room valid shaped e in
+    (λ l. crossing-stopped 0 w store list at events [] (valid-fits w whole valid) h few)
+    (λ _ e. crossing-stopped (c .number) w store list at events (askAt list at ∷ []) (valid-fits w whole valid) h few)
+    (λ _ e. let k : Further list at c = further-one w store list at room valid (whole .shaped) e in
     crossing-after list (askAt list at) (playFrom fuel (c .world) (c .store) list (c .place) (events + 1))
     (from-crossing fuel (c .world) (c .store) list (c .place) (events + 1) (k .within) (omega (arith, k .after)) (k .room)
-    (k .valid) (k .shaped)))
+    (k .valid) (next-whole w store list at whole e)))
+
+-- the world of a header
+header-weighs : (list : List ℕ) → length (headerWeights list) ≡ 16
+unfolding headerWeights evenWeights weightsBy
+header-weighs list =
+    pick-ind (λ l. length l ≡ 16) (isSecond list) (weightsBy (λ i. getD list (8 + i) 0) (headerOf list .n)) (evenWeights (headerOf list .n))
+    (λ _. stored-length _ (headerOf list .n) (replicate 16 0)) (λ _. stored-length _ (headerOf list .n) (replicate 16 0))
+
+header-whole : (list : List ℕ) → Whole (headerWorld list)
+unfolding headerWorld freshWorld zeroWorld
+header-whole list =
+    record {
+      shaped = header-shaped list;
+      weights =
+          pick-ind (λ w. length (w .weights) ≡ 16) (eqb (sizesNumber (headerOf list .n) (headerWeights list) (headerOf list .commit) (headerOf list .abort) (headerOf list .willing)) 0)
+          _ zeroWorld (λ _. header-weighs list) (λ _. refl);
+    }
 
 list-crossing : (store list : List ℕ) → Crossing list (playList store list)
 unfolding playList refusedList
 list-crossing store list =
     pick-ind (Crossing list) (ltb (length store) storeBytes) (refusedList 16 store)
-    (pick (eqb (headerNumber list) 0) (playFrom (length list) (headerWorld list) store list 5 0)
+    (pick (eqb (headerNumber list) 0) (playFrom (length list) (headerWorld list) store list (headerLength list) 0)
     (refusedList (headerNumber list) store))
     (λ _. crossing-stopped 16 zeroWorld store list 0 0 [] zero-fits (omega arith) (omega arith))
-    (λ room. pick-ind (Crossing list) (eqb (headerNumber list) 0) (playFrom (length list) (headerWorld list) store list 5 0)
+    (λ room. pick-ind (Crossing list) (eqb (headerNumber list) 0) (playFrom (length list) (headerWorld list) store list (headerLength list) 0)
     (refusedList (headerNumber list) store)
     (λ e. let head : headerNumber list ≡ 0 = eqb-true (headerNumber list) 0 e in
-    from-crossing (length list) (headerWorld list) store list 5 0 (headed list head .header) (omega arith)
-    (ltb-false (length store) storeBytes room) (header-valid list head) (header-shaped list))
+    from-crossing (length list) (headerWorld list) store list (headerLength list) 0 (headed list head .whole) (omega arith)
+    (ltb-false (length store) storeBytes room) (header-valid list head) (header-whole list))
     (λ e. crossing-stopped (headerNumber list) zeroWorld store list 0 0 [] zero-fits (omega arith) (omega arith)))
 
 -- a world that fits, written into a buffer of its length
@@ -139,8 +187,12 @@ accepted-valid w store list at e =
     by-test (validWorld w) (λ v. v)
     (λ v. let z : _≡_ {A = ℕ} 17 0 = rw (long, v) at e in absurd (omega arith)))
 
-read-shaped : (b : List ℕ) → Shaped (worldAt b)
-read-shaped b = record { sites = read-sites b; codes = read-codes b; joined = read-joined b }
+read-whole : (b : List ℕ) → Whole (worldAt b)
+read-whole b =
+    record {
+      shaped = record { sites = read-sites b; codes = read-codes b; joined = read-joined b };
+      weights = read-weights b;
+    }
 
 -- the world after an accepted command fits
 next-fits :
@@ -149,8 +201,8 @@ next-fits :
 next-fits b store list at e =
     let v : validWorld (worldAt b) ≡ true = accepted-valid (worldAt b) store list at e in
     valid-fits (oneCommand (worldAt b) store list at .world)
-    (next-valid (worldAt b) store list at (read-shaped b) v e .1)
-    (next-valid (worldAt b) store list at (read-shaped b) v e .0)
+    (next-whole (worldAt b) store list at (read-whole b) e)
+    (next-valid (worldAt b) store list at (read-whole b .shaped) v e .0)
 
 -- THEOREM: what an accepted command gives is what the next call reads
 pub command-crosses : CommandCrosses

@@ -3,11 +3,13 @@ use Prim.Native.Nat.{_≤_}
 use mathlib.Core.Path.{refl}
 use native.Mathlib.Omega.{arith}
 use lib.ListN.{length-append}
+use Rattle.choice.specs.Places.{sumTo, allBelow}
 use Rattle.text.specs.Text.{text, digitAt, decimal, named}
+use Rattle.weights.specs.Weights.{weightOf, totalWeight, larger, largestTo, largestWeight, validWeight, validWeights}
 use Rattle.vector.specs.Vector.{validEntry, validEntries, validVector}
 use Rattle.site.specs.State.{stateBy, stateOf, codeOf}
 use Rattle.site.specs.Fields.{zeroVector, blankSite}
-use Rattle.world.specs.Sizes.{quorumsNumber, sizesNumber}
+use Rattle.world.specs.Sizes.{sitesFit, quorumsFit, sizesNumber}
 use Rattle.world.specs.Worlds.{siteOf}
 use Rattle.world.specs.Valid.{validGroup, validSite, validSites, validWorld}
 use Rattle.lines.specs.Lines.{sizesLine, upWord, roleWord, stateWord, prepareLetter, groupLetter, outcomeLetter, logLetters, codeDigits, siteLine, siteLines, lastLine}
@@ -26,5 +28,5 @@ report-length w events number place e =
     (omega (arith, sizes-length w events (p .world) (p .events-fit), sites-length (w .n) w small small, last-length number place (omega (arith, p .number-known)) (p .place-fits)))
 
 pub longest-report : LongestReport
-unfolding downInGroup longestWorld text digitAt decimal named validEntry validEntries validVector stateBy stateOf codeOf zeroVector blankSite quorumsNumber sizesNumber siteOf validGroup validSite validSites validWorld sizesLine upWord roleWord stateWord prepareLetter groupLetter outcomeLetter logLetters codeDigits siteLine siteLines lastLine reportText reportValid
+unfolding downInGroup longestWorld text digitAt decimal named validEntry validEntries validVector stateBy stateOf codeOf zeroVector blankSite sumTo allBelow weightOf totalWeight larger largestTo largestWeight validWeight validWeights sitesFit quorumsFit sizesNumber siteOf validGroup validSite validSites validWorld sizesLine upWord roleWord stateWord prepareLetter groupLetter outcomeLetter logLetters codeDigits siteLine siteLines lastLine reportText reportValid
 longest-report = (refl, refl)

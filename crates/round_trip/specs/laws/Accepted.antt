@@ -12,8 +12,8 @@ use Rattle.world.specs.Sizes.{listBytes}
 use Rattle.command.specs.declared.Command.{Command}
 use Rattle.command.specs.Commands.{found, readCommand}
 use Rattle.header.specs.declared.Header.{Header}
-use Rattle.header.specs.Headers.{headerOf, headerSizes, headerNumber}
-use Rattle.header.specs.laws.HeaderLaws.{headed, sizes-small}
+use Rattle.header.specs.Headers.{firstHeader, firstSizes, firstNumber}
+use Rattle.header.specs.laws.HeaderLaws.{first-headed, first-sizes-small}
 use Rattle.spelling.specs.declared.HeaderLine.{HeaderLine}
 use Rattle.spelling.specs.declared.HeaderReading.{HeaderReading}
 use Rattle.spelling.specs.declared.HeaderReading.the-variants as HeaderReading·
@@ -45,28 +45,28 @@ output-is {to = to} {input = input} {b = b} a =
     ap output (a .leaves) ∙ put-gives (length input) (to (a .header) (a .commands)) b (a .room) .put
 
 -- the script of a list with a header
-module _ (list : List ℕ) (bytes : Bytes list) (head : headerNumber list ≡ 0) where
+module _ (list : List ℕ) (bytes : Bytes list) (head : firstNumber list ≡ 0) where
   pub list-spelt : ScriptSpelt commandBytes list (readCommand list) 5 (listScript list)
   unfolding listScript found
   list-spelt =
       script-spelt commandBytes list (readCommand list) command-longer
-      (λ at p inside e. command-spelt list bytes at (p .command) (p .next) e) (length list) 5 (omega arith) (headed list head .header)
+      (λ at p inside e. command-spelt list bytes at (p .command) (p .next) e) (length list) 5 (omega arith) (first-headed list head .header)
 
   -- accepted
   module _ (read : listScript list .number ≡ 0) where
-    list-is : list ≡ bytesOf (headerOf list) (listScript list .commands)
+    list-is : list ≡ bytesOf (firstHeader list) (listScript list .commands)
     unfolding bytesOf
     list-is =
-        header-spelt list bytes (headed list head .header)
+        header-spelt list bytes (first-headed list head .header)
         ∙ rw (whole-spelt commandBytes list (readCommand list) 5 (listScript list) (λ at r e. command-refused list bytes at r e .0) list-spelt read)
 
-    pub list-spells : Spells (headerOf list) (listScript list .commands)
+    pub list-spells : Spells (firstHeader list) (listScript list .commands)
     list-spells =
         record {
           header-ok = header-in-range list bytes;
           commands-ok = list-spelt .in-range;
-          sizes = headed list head .sizes;
-          small = rw (← list-is) (headed list head .small);
+          sizes = first-headed list head .sizes;
+          small = rw (← list-is) (first-headed list head .small);
         }
 
 -- an accepted list
@@ -75,17 +75,17 @@ pub written-from :
 unfolding writeLines
 written-from list b bytes e =
     let x : Script = listScript list in
-    let out : Output = putOut (length list) (linesOf (headerOf list) (x .commands)) b in
+    let out : Output = putOut (length list) (linesOf (firstHeader list) (x .commands)) b in
     let others : Output = pick (eqb (x .number) 0) out (refuse (x .number) (x .place) b) in
-    let p : (headerNumber list ≡ 0) × (writeLines list b ≡ others) = passed (headerNumber list) 0 b others e in
+    let p : (firstNumber list ≡ 0) × (writeLines list b ≡ others) = passed (firstNumber list) 0 b others e in
     let q : (x .number ≡ 0) × (others ≡ out) = passed (x .number) (x .place) b out (rw (p .1) at e) in
     let leaves : writeLines list b ≡ out = p .1 ∙ q .1 in
     record {
-      header = headerOf list;
+      header = firstHeader list;
       commands = x .commands;
       spells = list-spells list bytes (p .0) (q .0);
       input-is = list-is list bytes (p .0) (q .0);
-      room = put-room (length list) (linesOf (headerOf list) (x .commands)) b (rw leaves at e);
+      room = put-room (length list) (linesOf (firstHeader list) (x .commands)) b (rw leaves at e);
       leaves = leaves;
     }
 
@@ -104,16 +104,16 @@ module _ (s : List ℕ) (l : HeaderLine) (first : HeaderLineSpelt s l) where
       ∙ rw (whole-spelt commandLine s (readLine s) (l .next) (textScript s (l .next)) (λ at r e. omega (arith, line-refused s at r e .0)) text-spelt read)
 
 -- 1 and 3 to 5 do not refuse
-pub none-spelled : (h : Header) (n : ℕ) → spelledNumber h n ≡ 0 → (n ≤ listBytes) × (headerSizes h ≡ 0)
+pub none-spelled : (h : Header) (n : ℕ) → spelledNumber h n ≡ 0 → (n ≤ listBytes) × (firstSizes h ≡ 0)
 unfolding spelledNumber
 none-spelled h n =
-    pick-ind (λ x. x ≡ 0 → (n ≤ listBytes) × (headerSizes h ≡ 0)) (ltb listBytes n) 1 (headerSizes h)
+    pick-ind (λ x. x ≡ 0 → (n ≤ listBytes) × (firstSizes h ≡ 0)) (ltb listBytes n) 1 (firstSizes h)
     (λ _ z. absurd (omega arith)) (λ off z. (ltb-false listBytes n off, z))
 
 -- and are no larger
 pub spelled-small : (h : Header) (n : ℕ) → spelledNumber h n ≤ 5
 unfolding spelledNumber
-spelled-small h n = pick-ind (λ x. x ≤ 5) (ltb listBytes n) 1 (headerSizes h) (λ _. omega arith) (λ _. sizes-small h)
+spelled-small h n = pick-ind (λ x. x ≤ 5) (ltb listBytes n) 1 (firstSizes h) (λ _. omega arith) (λ _. first-sizes-small h)
 
 -- an accepted text, its first line read
 found-from :

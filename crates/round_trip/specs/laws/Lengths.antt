@@ -6,12 +6,12 @@ use native.Mathlib.Omega.{arith}
 use lib.ListN.{length, length-append, length-replicate, replicate}
 use Rattle.text.specs.Text.{text, digitAt, decimal, named}
 use Rattle.text.specs.laws.DecimalLaws.{decimal-below}
-use Rattle.world.specs.Sizes.{textBytes, quorumsNumber, sizesNumber}
-use Rattle.world.specs.laws.SizesLaws.{Sized, sized}
+use Rattle.world.specs.Sizes.{textBytes}
 use Rattle.command.specs.declared.Command.{Command}
 use Rattle.command.specs.declared.Command.the-variants as Command·
 use Rattle.header.specs.declared.Header.{Header}
-use Rattle.header.specs.Headers.{headerSizes}
+use Rattle.header.specs.Headers.{firstSizes}
+use Rattle.header.specs.laws.FirstLaws.{FirstSized, first-sized, first-fitting}
 use Rattle.spelling.specs.Spelling.{headerLine, commandLine, headerBytes, commandBytes}
 use Rattle.spelling.specs.Ranges.{HeaderInRange, InRange, AllInRange}
 use Rattle.spelling.specs.Script.{spelledBy}
@@ -24,10 +24,10 @@ use Rattle.round_trip.specs.laws.Spells.{Spells, text-length, writes}
 use Rattle.round_trip.specs.laws.Accepted.{Accepted, written-from}
 
 -- the first line has at most 42 bytes
-header-fits : (h : Header) → HeaderInRange h → headerSizes h ≡ 0 → length (headerLine h) ≤ 42
-unfolding headerLine named text headerSizes
+header-fits : (h : Header) → HeaderInRange h → firstSizes h ≡ 0 → length (headerLine h) ≤ 42
+unfolding headerLine named text
 header-fits h ok e =
-    let z : Sized (h .n) (h .commit) (h .abort) (h .willing) = sized (h .n) (h .commit) (h .abort) (h .willing) e in
+    let z : FirstSized (h .n) (h .commit) (h .abort) (h .willing) = first-sized h e in
     simp length-append
     (omega (arith, decimal-below 2 (h .n) (omega arith) (omega arith), decimal-below 2 (h .commit .0) (omega arith) (omega arith), decimal-below 2 (h .abort .0) (omega arith) (omega arith), decimal-below 5 (h .willing) (omega arith) (omega arith)))
 
@@ -67,7 +67,7 @@ starts-lines zero = refl
 starts-lines (suc n) = omega (arith, starts-lines n)
 
 -- after a header
-module _ (h : Header) (n : ℕ) (ok : HeaderInRange h) (sizes : headerSizes h ≡ 0) (small : 5 + n ≤ 32768) where
+module _ (h : Header) (n : ℕ) (ok : HeaderInRange h) (sizes : firstSizes h ≡ 0) (small : 5 + n ≤ 32768) where
   starts-spell : Spells h (replicate n Command·.Start)
   starts-spell =
       record {
@@ -88,7 +88,18 @@ module _ (h : Header) (n : ℕ) (ok : HeaderInRange h) (sizes : headerSizes h �
       (refl, long)
 
 pub longest-text : LongestText
-unfolding longestList headerLine named text decimal digitAt headerSizes sizesNumber quorumsNumber
+unfolding longestList headerLine named text decimal digitAt
 longest-text b room =
-    starts-text _ 32763 (record { sites = omega arith; commit = omega arith; abort = omega arith; willing = omega arith }) refl
+    let h : Header = record { n = 16; commit = record { 0 = 15 }; abort = record { 0 = 15 }; willing = 65535 } in
+    let sizes : firstSizes h ≡ 0 =
+    first-fitting h
+    (record {
+      low = omega arith;
+      high = omega arith;
+      commit-below = omega arith;
+      abort-below = omega arith;
+      quorums-meet = omega arith;
+      willing-below = omega arith;
+    }) in
+    starts-text h 32763 (record { sites = omega arith; commit = omega arith; abort = omega arith; willing = omega arith }) sizes
     (omega arith) longestList b refl room

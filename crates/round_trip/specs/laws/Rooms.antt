@@ -10,8 +10,8 @@ use Rattle.world.specs.Sizes.{listBytes, textBytes}
 use Rattle.command.specs.declared.Command.{Command}
 use Rattle.command.specs.Commands.{readCommand}
 use Rattle.header.specs.declared.Header.{Header}
-use Rattle.header.specs.Headers.{headerOf, headerNumber}
-use Rattle.header.specs.laws.HeaderLaws.{header-small}
+use Rattle.header.specs.Headers.{firstHeader, firstNumber}
+use Rattle.header.specs.laws.HeaderLaws.{first-small}
 use Rattle.spelling.specs.declared.HeaderLine.{HeaderLine}
 use Rattle.spelling.specs.declared.HeaderReading.{HeaderReading}
 use Rattle.spelling.specs.declared.HeaderReading.the-variants as HeaderReading·
@@ -32,13 +32,13 @@ written-below : (list b : List ℕ) → Bytes list → textBytes ≤ length b �
 unfolding writeLines refuse
 written-below list b bytes room =
     let x : Script = listScript list in
-    by-equal (headerNumber list) 0
-    (λ head. rw (eq-eqb (headerNumber list) 0 head)
+    by-equal (firstNumber list) 0
+    (λ head. rw (eq-eqb (firstNumber list) 0 head)
     (by-equal (x .number) 0
-    (λ none. rw (eq-eqb (x .number) 0 none, put-done (length list) (linesOf (headerOf list) (x .commands)) b (omega (arith, lines-fit (headerOf list) (x .commands) (list-spells list bytes head none)))) (omega arith))
+    (λ none. rw (eq-eqb (x .number) 0 none, put-done (length list) (linesOf (firstHeader list) (x .commands)) b (omega (arith, lines-fit (firstHeader list) (x .commands) (list-spells list bytes head none)))) (omega arith))
     (λ some. rw (ne-eqb (x .number) 0 some)
     (script-below commandBytes list (readCommand list) 7 5 x (λ at r e. command-refused list bytes at r e .2) (list-spelt list bytes head)))))
-    (λ bad. rw (ne-eqb (headerNumber list) 0 bad) (omega (arith, header-small list)))
+    (λ bad. rw (ne-eqb (firstNumber list) 0 bad) (omega (arith, first-small list)))
 
 -- with room for every list, reading gives none above 5 once the lines are read, and none above 19
 module _ (s b : List ℕ) (room : listBytes ≤ length b) where

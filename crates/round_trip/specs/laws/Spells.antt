@@ -10,7 +10,7 @@ use Rattle.world.specs.Sizes.{listBytes}
 use Rattle.command.specs.declared.Command.{Command}
 use Rattle.command.specs.Commands.{readCommand}
 use Rattle.header.specs.declared.Header.{Header}
-use Rattle.header.specs.Headers.{headerOf, headerSizes, headerNumber}
+use Rattle.header.specs.Headers.{firstHeader, firstSizes, firstNumber}
 use Rattle.spelling.specs.declared.HeaderReading.the-variants as HeaderReading·
 use Rattle.spelling.specs.Spelling.{headerLine, commandLine, headerBytes, commandBytes}
 use Rattle.spelling.specs.Ranges.{HeaderInRange, AllInRange}
@@ -25,7 +25,7 @@ use Rattle.round_trip.specs.laws.ScriptBack.{whole, script-reads}
 pub record Spells (h : Header) (commands : List Command) : Type 0 where
   pub header-ok : HeaderInRange h
   pub commands-ok : AllInRange commands
-  pub sizes : headerSizes h ≡ 0
+  pub sizes : firstSizes h ≡ 0
   pub small : length (bytesOf h commands) ≤ listBytes
 
 -- how long the lines are
@@ -37,12 +37,12 @@ text-length h commands = length-append (headerLine h) (spelledBy commandLine com
 
 module _ (h : Header) (commands : List Command) (ok : Spells h commands) where
   -- WRITING takes the bytes to the lines
-  bytes-header : headerOf (bytesOf h commands) ≡ h
+  bytes-header : firstHeader (bytesOf h commands) ≡ h
   unfolding bytesOf
   bytes-header = header-reads h (spelledBy commandBytes commands) (ok .header-ok)
 
-  bytes-number : headerNumber (bytesOf h commands) ≡ 0
-  unfolding headerNumber
+  bytes-number : firstNumber (bytesOf h commands) ≡ 0
+  unfolding firstNumber
   bytes-number =
       let list : List ℕ = bytesOf h commands in
       rw (le-ltb listBytes (length list) (ok .small), le-ltb (length list) 5 (omega (arith, list-length h commands)), bytes-header)
@@ -57,7 +57,7 @@ module _ (h : Header) (commands : List Command) (ok : Spells h commands) where
 
   pub writes : (b : List ℕ) → writeLines (bytesOf h commands) b ≡ putOut (length (bytesOf h commands)) (linesOf h commands) b
   unfolding writeLines
-  writes b = rw (eq-eqb (headerNumber (bytesOf h commands)) 0 bytes-number, bytes-script, bytes-header)
+  writes b = rw (eq-eqb (firstNumber (bytesOf h commands)) 0 bytes-number, bytes-script, bytes-header)
 
   -- READING takes the lines to the bytes
   lines-header : readHeaderLine (linesOf h commands) ≡ HeaderReading·.Found (record { header = h; next = length (headerLine h) })

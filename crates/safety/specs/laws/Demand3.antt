@@ -12,12 +12,11 @@ use Rattle.world.specs.declared.World.{World}
 use Rattle.world.specs.Sizes.{sizesNumber}
 use Rattle.world.specs.Worlds.{zeroWorld}
 use Rattle.play.specs.Run.{Ask, run}
-use Rattle.choice.specs.laws.Stores.{sumTo}
+use Rattle.choice.specs.Places.{sumTo}
 use Rattle.safety.specs.Claims.{written, writtenAt, outcomes, Safe, Demand3, RefusedSizes}
 use Rattle.choice.specs.laws.Cases.{by-test, by-equal}
 use Rattle.safety.specs.laws.HistoryLaws.{some-site, written-at-sites, one-each}
-use Rattle.safety.specs.laws.Weights.{total-sites}
-use Rattle.world.specs.laws.SizesLaws.{Sized, sized}
+use Rattle.world.specs.laws.SizesLaws.{Sized, sized, quorums-above}
 use Rattle.safety.specs.laws.Truth.{Terms, AllPrepared, TrueHistory}
 use Rattle.safety.specs.laws.TruthLaws.{commit-prepared, not-both}
 use Rattle.safety.specs.laws.Invariant.{termsOf}
@@ -74,23 +73,23 @@ empty-safe n willing =
     }
 
 -- the run of sizes that are not refused
-new-safe : (n : ℕ) (c : CommitQuorum) (a : AbortQuorum) (willing : ℕ) (store : List ℕ) (asks : List Ask) → sizesNumber n c a willing ≡ 0 →
-    Safe n willing (run (newWorld n c a willing) store asks .records)
+new-safe : (n : ℕ) (weights : List ℕ) (c : CommitQuorum) (a : AbortQuorum) (willing : ℕ) (store : List ℕ) (asks : List Ask) → sizesNumber n weights c a willing ≡ 0 →
+    Safe n willing (run (newWorld n weights c a willing) store asks .records)
 unfolding newWorld
-new-safe n c a willing store asks e =
-    let w : World = newWorld n c a willing in
-    let s : Sized n c a willing = sized n c a willing e in
+new-safe n weights c a willing store asks e =
+    let w : World = newWorld n weights c a willing in
+    let s : Sized n weights c a willing = sized n weights c a willing e in
     true-safe (termsOf w) (run w store asks .records)
     (subst (λ t. TrueHistory t (run w store asks .records)) (run-terms w store asks)
-    (run-keeps w store asks [] (new-invariant n c a willing store (s .high)) .history))
-    (omega arith) (omega (arith, total-sites n))
+    (run-keeps w store asks [] (new-invariant n weights c a willing store (s .high)) .history))
+    (omega arith) (quorums-above n weights c a willing s)
 
 pub refused-sizes : RefusedSizes
-refused-sizes n c a willing store asks e =
-    rw (fresh-zero n c a willing e) (run-stuck zeroWorld store asks zero-invalid .1)
+refused-sizes n weights c a willing store asks e =
+    rw (fresh-zero n weights c a willing e) (run-stuck zeroWorld store asks zero-invalid .1)
 
 pub demand3 : Demand3
-demand3 n c a willing store asks =
-    by-equal (sizesNumber n c a willing) 0
-    (λ e. rw (fresh-new n c a willing e) (new-safe n c a willing store asks e))
-    (λ e. rw (refused-sizes n c a willing store asks e) (empty-safe n willing))
+demand3 n weights c a willing store asks =
+    by-equal (sizesNumber n weights c a willing) 0
+    (λ e. rw (fresh-new n weights c a willing e) (new-safe n weights c a willing store asks e))
+    (λ e. rw (refused-sizes n weights c a willing store asks e) (empty-safe n willing))

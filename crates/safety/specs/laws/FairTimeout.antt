@@ -9,7 +9,8 @@ use lib.ListN.{getD}
 use borrow.Author.Tests.{ltb-true, leb-true, eqb-true}
 use Rattle.choice.specs.Choice.{either}
 use Rattle.choice.specs.laws.ChoiceLaws.{pick-ind}
-use Rattle.vector.specs.Vector.{siteWeight, count}
+use Rattle.weights.specs.Weights.{weightOf}
+use Rattle.vector.specs.Vector.{weigh, count}
 use Rattle.bits.specs.Bits.{hasBit}
 use Rattle.site.specs.declared.State.{State}
 use Rattle.site.specs.declared.State.the-variants as State·
@@ -66,7 +67,7 @@ module _ {t : Terms} {own : ℕ} {H : List Written} {s : Site} (st : Standing t 
             rw one at (st .site .codes .codes i less (omega arith));
       })
       (λ not-all. joined-prepared
-      (entry-from siteWeight (t .n) 2 (s .codes) (ltb-true 0 (count (t .n) (s .codes) 2) (rw not-all at e))))
+      (entry-from (λ _. 1) (t .n) 2 (s .codes) (ltb-true 0 (count (t .n) (s .codes) 2) (rw not-all at e))))
 
   fair-chooseGroup : writtenAt own 2 H + writtenAt own 3 H ≡ 0 → FairMove t own H (chooseGroup own (t .n) s)
   unfolding chooseGroup writeRecord
@@ -81,53 +82,53 @@ module _ {t : Terms} {own : ℕ} {H : List Written} {s : Site} (st : Standing t 
       (λ e. fair-command 4 (joinGroup abort own s) (wrote own (groupRecord abort) ∷ []) (λ z. absurd (omega arith))
       (fair-write st (groupRecord abort) free))
 
-module _ (n : ℕ) (c : CommitQuorum) (a : AbortQuorum) (willing own : ℕ) (H : List Written) (s : Site)
-    (st : Standing (siteTerms n c a willing) own H s) where
+module _ (n : ℕ) (weights : List ℕ) (c : CommitQuorum) (a : AbortQuorum) (willing own : ℕ) (H : List Written) (s : Site)
+    (st : Standing (siteTerms n weights c a willing) own H s) where
   fair-decideCommit : writtenAt own 4 H + writtenAt own 5 H ≡ 0 → AllPrepared n H →
-      FairMove (siteTerms n c a willing) own H (decideCommit own n c s)
-  unfolding decideCommit commitReached count writeRecord
+      FairMove (siteTerms n weights c a willing) own H (decideCommit own n weights c s)
+  unfolding decideCommit commitReached writeRecord
   fair-decideCommit free all =
-      pick-ind (FairMove (siteTerms n c a willing) own H) (commitReached c n (s .codes))
+      pick-ind (FairMove (siteTerms n weights c a willing) own H) (commitReached c weights n (s .codes))
       (commanding 6 own n (writeOutcome commit own s) (wrote own (outcomeRecord commit) ∷ []))
       (commanding 3 own n s [])
       (λ e. fair-command 6 (writeOutcome commit own s) (wrote own (outcomeRecord commit) ∷ []) (λ z. absurd (omega arith))
       (fair-write st (outcomeRecord commit)
-      (free, omega (arith, leb-true (c .0) (count n (s .codes) 2) e, quorum-backed siteWeight n 2 (omega arith) (st .site .codes)))))
+      (free, omega (arith, leb-true (c .0) (weigh (weightOf weights) n (s .codes) 2) e, quorum-backed (weightOf weights) n 2 (omega arith) (st .site .codes)))))
       (λ e. fair-command 3 s [] (λ z. all-prepared-grows n (grown-append H []) all) (fair-stay st))
 
   fair-decideAbort : writtenAt own 4 H + writtenAt own 5 H ≡ 0 →
-      FairMove (siteTerms n c a willing) own H (decideAbort own n a s)
-  unfolding decideAbort abortReached count writeRecord
+      FairMove (siteTerms n weights c a willing) own H (decideAbort own n weights a s)
+  unfolding decideAbort abortReached writeRecord
   fair-decideAbort free =
-      pick-ind (FairMove (siteTerms n c a willing) own H) (abortReached a n (s .codes))
+      pick-ind (FairMove (siteTerms n weights c a willing) own H) (abortReached a weights n (s .codes))
       (commanding 6 own n (writeOutcome abort own s) (wrote own (outcomeRecord abort) ∷ []))
       (commanding 4 own n s [])
       (λ e. fair-command 6 (writeOutcome abort own s) (wrote own (outcomeRecord abort) ∷ []) (λ z. absurd (omega arith))
       (fair-write st (outcomeRecord abort) (
         free,
         grounded (by-quorum
-            (omega (arith, leb-true (a .0) (count n (s .codes) 3) e, quorum-backed siteWeight n 3 (omega arith) (st .site .codes)))),
+            (omega (arith, leb-true (a .0) (weigh (weightOf weights) n (s .codes) 3) e, quorum-backed (weightOf weights) n 3 (omega arith) (st .site .codes)))),
       )))
       (λ e. fair-command 4 s [] (λ z. absurd (omega arith)) (fair-stay st))
 
-  fair-timeoutIn : (now : State) → Says now own H → FairMove (siteTerms n c a willing) own H (timeoutIn now own n c a s)
+  fair-timeoutIn : (now : State) → Says now own H → FairMove (siteTerms n weights c a willing) own H (timeoutIn now own n weights c a s)
   unfolding timeoutIn writeRecord
   fair-timeoutIn State·.Active (p, g, o) =
       fair-silent (writeOutcome abort own s) (wrote own (outcomeRecord abort) ∷ [])
       (fair-write st (outcomeRecord abort) (o, unprepared p))
   fair-timeoutIn State·.Prepared (p, g, o) =
-      pick-ind (FairMove (siteTerms n c a willing) own H) (s .coordinator) (chooseGroup own n s) (takeOver 1 own n s)
+      pick-ind (FairMove (siteTerms n weights c a willing) own H) (s .coordinator) (chooseGroup own n s) (takeOver 1 own n s)
       (λ e. fair-chooseGroup st g) (λ e. fair-takeOver st 1 (λ z. absurd (omega arith)))
   fair-timeoutIn State·.CommitGroup (g, o) =
       let all : AllPrepared n H = st .history .commit-group own (omega arith) in
-      pick-ind (FairMove (siteTerms n c a willing) own H) (s .coordinator) (decideCommit own n c s) (takeOver 3 own n s)
+      pick-ind (FairMove (siteTerms n weights c a willing) own H) (s .coordinator) (decideCommit own n weights c s) (takeOver 3 own n s)
       (λ e. fair-decideCommit o all) (λ e. fair-takeOver st 3 (λ z. all))
   fair-timeoutIn State·.AbortGroup (g, o) =
-      pick-ind (FairMove (siteTerms n c a willing) own H) (s .coordinator) (decideAbort own n a s) (takeOver 4 own n s)
+      pick-ind (FairMove (siteTerms n weights c a willing) own H) (s .coordinator) (decideAbort own n weights a s) (takeOver 4 own n s)
       (λ e. fair-decideAbort o) (λ e. fair-takeOver st 4 (λ z. absurd (omega arith)))
   fair-timeoutIn State·.Committed o = fair-takeOver st 6 (λ z. absurd (omega arith))
   fair-timeoutIn State·.Aborted o = fair-takeOver st 6 (λ z. absurd (omega arith))
 
-  pub fair-timeout : FairMove (siteTerms n c a willing) own H (timeout own n c a s)
+  pub fair-timeout : FairMove (siteTerms n weights c a willing) own H (timeout own n weights c a s)
   unfolding timeout
   fair-timeout = fair-timeoutIn (stateOf s) (says (st .site))

@@ -11,13 +11,13 @@ use borrow.Author.Tests.{lt-ltb, le-ltb, ltb-true, ltb-false, eq-eqb, ne-eqb}
 use Rattle.choice.specs.Choice.{pick}
 use Rattle.choice.specs.laws.ChoiceLaws.{pick-ind}
 use Rattle.choice.specs.laws.Cases.{by-test, by-equal}
-use Rattle.vector.specs.Vector.{siteWeight}
+use Rattle.weights.specs.Weights.{weightOf}
 use Rattle.site.specs.declared.Site.{Site}
 use Rattle.site.specs.Fields.{blankSite}
 use Rattle.site.specs.declared.CommitQuorum.{CommitQuorum}
 use Rattle.site.specs.declared.AbortQuorum.{AbortQuorum}
 use Rattle.world.specs.declared.World.{World}
-use Rattle.world.specs.Sizes.{sizesNumber}
+use Rattle.world.specs.Sizes.{sitesFit, sizesNumber}
 use Rattle.world.specs.Worlds.{downSites, zeroWorld, freshSites, freshWorld, siteOf}
 use Rattle.world.specs.Valid.{validWorld}
 use Rattle.safety.specs.Claims.{writtenAt}
@@ -26,29 +26,30 @@ use Rattle.safety.specs.laws.TruthLaws.{zero-true}
 use Rattle.safety.specs.laws.Invariant.{Invariant}
 
 -- the world of sizes that are not refused
-unfoldable pub newWorld : ℕ → CommitQuorum → AbortQuorum → ℕ → World
-newWorld n c a willing =
+unfoldable pub newWorld : ℕ → List ℕ → CommitQuorum → AbortQuorum → ℕ → World
+newWorld n weights c a willing =
     record {
       sites = freshSites n;
       n = n;
       commit = c;
       abort = a;
       willing = willing;
+      weights = weights;
       rows = 0;
       news = 0;
     }
 
-pub fresh-new : (n : ℕ) (c : CommitQuorum) (a : AbortQuorum) (willing : ℕ) → sizesNumber n c a willing ≡ 0 → freshWorld n c a willing ≡ newWorld n c a willing
+pub fresh-new : (n : ℕ) (weights : List ℕ) (c : CommitQuorum) (a : AbortQuorum) (willing : ℕ) → sizesNumber n weights c a willing ≡ 0 → freshWorld n weights c a willing ≡ newWorld n weights c a willing
 unfolding freshWorld newWorld
-fresh-new n c a willing e = rw (eq-eqb (sizesNumber n c a willing) 0 e)
+fresh-new n weights c a willing e = rw (eq-eqb (sizesNumber n weights c a willing) 0 e)
 
-pub fresh-zero : (n : ℕ) (c : CommitQuorum) (a : AbortQuorum) (willing : ℕ) → (sizesNumber n c a willing ≡ 0 → ⊥) → freshWorld n c a willing ≡ zeroWorld
+pub fresh-zero : (n : ℕ) (weights : List ℕ) (c : CommitQuorum) (a : AbortQuorum) (willing : ℕ) → (sizesNumber n weights c a willing ≡ 0 → ⊥) → freshWorld n weights c a willing ≡ zeroWorld
 unfolding freshWorld
-fresh-zero n c a willing e = rw (ne-eqb (sizesNumber n c a willing) 0 e)
+fresh-zero n weights c a willing e = rw (ne-eqb (sizesNumber n weights c a willing) 0 e)
 
 -- the world of zeros does not pass 17
 pub zero-invalid : validWorld zeroWorld ≡ false
-unfolding validWorld zeroWorld sizesNumber
+unfolding validWorld zeroWorld sizesNumber sitesFit
 zero-invalid = refl
 
 -- sixteen blank sites
@@ -104,11 +105,11 @@ empty-true t =
     }
 
 -- the invariant at the start
-pub new-invariant : (n : ℕ) (c : CommitQuorum) (a : AbortQuorum) (willing : ℕ) (store : List ℕ) → n ≤ 16 → Invariant (newWorld n c a willing) store []
+pub new-invariant : (n : ℕ) (weights : List ℕ) (c : CommitQuorum) (a : AbortQuorum) (willing : ℕ) (store : List ℕ) → n ≤ 16 → Invariant (newWorld n weights c a willing) store []
 unfolding newWorld siteOf
-new-invariant n c a willing store few =
+new-invariant n weights c a willing store few =
     record {
-      history = empty-true (record { n = n; weight = siteWeight; commit = c .0; abort = a .0; willing = willing });
+      history = empty-true (record { n = n; weight = weightOf weights; commit = c .0; abort = a .0; willing = willing });
       sites = λ j less.
           fresh-blank (TrueSite n j []) (blank-true n j true few) (blank-true n j false few) n j few (omega arith);
       rows = λ k h. absurd (omega arith);

@@ -1,6 +1,7 @@
 -- The maker's world passes 17.
 use Prim.Native.Nat.{ℕ, _<_}
 use mathlib.Core.Bool.{Bool, true, false}
+use mathlib.Core.List.{List}
 use mathlib.Core.Path.{_≡_, refl}
 use native.Mathlib.Omega.{arith}
 use lib.ListN.{getD, getD-replicate}
@@ -33,12 +34,12 @@ blank-valid : (own n : ℕ) (up : Bool) → own < 16 → validSite own n (blankS
 unfolding validSite validGroup blankSite stateOf stateBy codeOf
 blank-valid own n up h = simp (zero-valid, zero-at own h)
 
-pub fresh-valid : (n : ℕ) (c : CommitQuorum) (a : AbortQuorum) (willing : ℕ) → sizesNumber n c a willing ≡ 0 → validWorld (freshWorld n c a willing) ≡ true
+pub fresh-valid : (n : ℕ) (weights : List ℕ) (c : CommitQuorum) (a : AbortQuorum) (willing : ℕ) → sizesNumber n weights c a willing ≡ 0 → validWorld (freshWorld n weights c a willing) ≡ true
 unfolding newWorld siteOf
-fresh-valid n c a willing e =
-    let s : Sized n c a willing = sized n c a willing e in
-    rw (fresh-new n c a willing e)
-    (valid-whole (newWorld n c a willing)
+fresh-valid n weights c a willing e =
+    let s : Sized n weights c a willing = sized n weights c a willing e in
+    rw (fresh-new n weights c a willing e)
+    (valid-whole (newWorld n weights c a willing)
     (record {
       sizes = e;
       rows = omega arith;

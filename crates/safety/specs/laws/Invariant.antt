@@ -29,7 +29,7 @@ use Rattle.safety.specs.laws.FairCrash.{fair-crash, fair-recover}
 
 -- the terms that a world's sizes set
 abbrev pub termsOf : World → Terms
-termsOf w = siteTerms (w .n) (w .commit) (w .abort) (w .willing)
+termsOf w = siteTerms (w .n) (w .weights) (w .commit) (w .abort) (w .willing)
 
 -- a true row reads back true
 row-put : (n : ℕ) (H : List Written) (store : List ℕ) (k : ℕ) (r : Row) → rowPlace (k + 1) ≤ length store → n ≤ 16 → TrueRow n H r →
@@ -58,7 +58,7 @@ module _ (w : World) (store : List ℕ) (H : List Written) (inv : Invariant w st
   fair-turn own m less (by-start up active) =
       fair-start (isWilling w 0) refl (standing 0 less) (says-active (stateOf (siteOf w 0)) 0 H active (says (inv .sites 0 less)))
   fair-turn own m less (by-timeout i up) =
-      fair-timeout (w .n) (w .commit) (w .abort) (w .willing) i H (siteOf w i) (standing i less)
+      fair-timeout (w .n) (w .weights) (w .commit) (w .abort) (w .willing) i H (siteOf w i) (standing i less)
   fair-turn own m less (by-deliver i k up there known) =
       fair-deliver (isWilling w i) (getRow store k) refl (inv .rows k there) (standing i less)
   fair-turn own m less (by-crash i up) = fair-crash (standing i less)

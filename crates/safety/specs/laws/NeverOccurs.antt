@@ -4,7 +4,7 @@ use mathlib.Core.List.{List, [], _++_}
 use mathlib.Core.Path.{_≡_, ap, _∙_}
 use native.Mathlib.Omega.{arith}
 use lib.ListN.{getD}
-use Rattle.vector.specs.Vector.{siteWeight}
+use Rattle.weights.specs.Weights.{weightOf}
 use Rattle.row.specs.declared.Row.{Row}
 use Rattle.row.specs.Rows.{getRow}
 use Rattle.site.specs.declared.Site.{Site}
@@ -22,12 +22,11 @@ use Rattle.world.specs.Worlds.{siteOf, zeroWorld}
 use Rattle.world.specs.Valid.{validWorld}
 use Rattle.play.specs.Calls.{Call}
 use Rattle.play.specs.Run.{Ask, Ran, run, callOf}
-use Rattle.choice.specs.laws.Stores.{sumTo}
+use Rattle.choice.specs.Places.{sumTo}
 use Rattle.safety.specs.Claims.{NoConflict, Delivered, NeverOccurs}
 use Rattle.choice.specs.laws.Cases.{by-equal}
 use Rattle.safety.specs.laws.HistoryLaws.{grown-append}
-use Rattle.safety.specs.laws.Weights.{total-sites}
-use Rattle.world.specs.laws.SizesLaws.{Sized, sized}
+use Rattle.world.specs.laws.SizesLaws.{Sized, sized, quorums-above}
 use Rattle.world.specs.laws.WorldLaws.{valid-sized}
 use Rattle.safety.specs.laws.Truth.{Terms, TrueHistory, TrueCode, TrueRow}
 use Rattle.safety.specs.laws.TruthLaws.{all-prepared-grows, not-both, says, says-not-active}
@@ -53,8 +52,8 @@ delivered :
     (w : World) (store : List ℕ) (H : List Written) (k i : ℕ) (c : Call) → Invariant w store H → Delivering w store k i c →
     Delivered w store k i
 delivered w store H k i c inv d =
-    let s : Sized (w .n) (w .commit) (w .abort) (w .willing) = valid-sized w (d .valid) in
-    let more : sumTo siteWeight (w .n) < w .commit .0 + w .abort .0 = omega (arith, total-sites (w .n)) in
+    let s : Sized (w .n) (w .weights) (w .commit) (w .abort) (w .willing) = valid-sized w (d .valid) in
+    let more : sumTo (weightOf (w .weights)) (w .n) < w .commit .0 + w .abort .0 = quorums-above (w .n) (w .weights) (w .commit) (w .abort) (w .willing) s in
     let row : Row = getRow store k in
     let true-row : TrueRow (w .n) H row = inv .rows k (d .row-below) in
     let merged : Site = hear i (w .n) row (siteOf w i) in
@@ -76,15 +75,15 @@ delivered w store H k i c inv d =
     }
 
 -- by the sizes: a new world, or the world of zeros, in which no call is accepted
-new-never : (n : ℕ) (c : CommitQuorum) (a : AbortQuorum) (willing : ℕ) (store : List ℕ) (asks : List Ask) (ask : Ask) (d : Delivery) (next : ℕ) → n ≤ 16 →
+new-never : (n : ℕ) (weights : List ℕ) (c : CommitQuorum) (a : AbortQuorum) (willing : ℕ) (store : List ℕ) (asks : List Ask) (ask : Ask) (d : Delivery) (next : ℕ) → n ≤ 16 →
     readCommand (ask .list) (ask .place) ≡ found (Command·.Deliver d) next →
-    callOf (run (newWorld n c a willing) store asks .world) (run (newWorld n c a willing) store asks .store) ask .number ≡ 0 →
-    Delivered (run (newWorld n c a willing) store asks .world) (run (newWorld n c a willing) store asks .store) (d .row) (d .site)
+    callOf (run (newWorld n weights c a willing) store asks .world) (run (newWorld n weights c a willing) store asks .store) ask .number ≡ 0 →
+    Delivered (run (newWorld n weights c a willing) store asks .world) (run (newWorld n weights c a willing) store asks .store) (d .row) (d .site)
 unfolding callOf
-new-never n c a willing store asks ask d next few reading accepted =
-    let r : Ran = run (newWorld n c a willing) store asks in
+new-never n weights c a willing store asks ask d next few reading accepted =
+    let r : Ran = run (newWorld n weights c a willing) store asks in
     delivered (r .world) (r .store) (r .records) (d .row) (d .site) (callOf (r .world) (r .store) ask)
-    (run-keeps (newWorld n c a willing) store asks [] (new-invariant n c a willing store few))
+    (run-keeps (newWorld n weights c a willing) store asks [] (new-invariant n weights c a willing store few))
     (delivering (r .world) (r .store) (ask .list) (ask .place) d next reading accepted)
 
 zero-never : (store : List ℕ) (asks : List Ask) (ask : Ask) →
@@ -95,8 +94,8 @@ zero-never store asks ask =
     (ap validWorld (run-stuck zeroWorld store asks zero-invalid .0) ∙ zero-invalid) (seen (r .world) (r .store) ask) .not-accepted
 
 pub never-occurs : NeverOccurs
-never-occurs n c a willing store asks ask d next reading accepted =
-    by-equal (sizesNumber n c a willing) 0
-    (λ e. rw (fresh-new n c a willing e)
-    (new-never n c a willing store asks ask d next (sized n c a willing e .high) reading (rw (fresh-new n c a willing e) at accepted)))
-    (λ e. absurd (zero-never store asks ask (rw (fresh-zero n c a willing e) at accepted)))
+never-occurs n weights c a willing store asks ask d next reading accepted =
+    by-equal (sizesNumber n weights c a willing) 0
+    (λ e. rw (fresh-new n weights c a willing e)
+    (new-never n weights c a willing store asks ask d next (sized n weights c a willing e .high) reading (rw (fresh-new n weights c a willing e) at accepted)))
+    (λ e. absurd (zero-never store asks ask (rw (fresh-zero n weights c a willing e) at accepted)))

@@ -37,23 +37,23 @@ none-but-abort j code H K (p, g, o) only some few =
 
 -- from a new world
 new-no-yes :
-    (n : ℕ) (c : CommitQuorum) (a : AbortQuorum) (willing : ℕ) (store : List ℕ) (first rest : List Ask) (j k : ℕ) → j < n →
-    sizesNumber n c a willing ≡ 0 → DownEmpty (run (newWorld n c a willing) store first .world) j →
-    k < runOn (run (newWorld n c a willing) store first) rest .world .rows →
-    NoYes j (getRow (runOn (run (newWorld n c a willing) store first) rest .store) k .codes)
+    (n : ℕ) (weights : List ℕ) (c : CommitQuorum) (a : AbortQuorum) (willing : ℕ) (store : List ℕ) (first rest : List Ask) (j k : ℕ) → j < n →
+    sizesNumber n weights c a willing ≡ 0 → DownEmpty (run (newWorld n weights c a willing) store first .world) j →
+    k < runOn (run (newWorld n weights c a willing) store first) rest .world .rows →
+    NoYes j (getRow (runOn (run (newWorld n weights c a willing) store first) rest .store) k .codes)
 unfolding newWorld
-new-no-yes n c a willing store first rest j k less e d there =
-    let w : World = newWorld n c a willing in
+new-no-yes n weights c a willing store first rest j k less e d there =
+    let w : World = newWorld n weights c a willing in
     let r : Ran = run w store first in
     let r′ : Ran = runOn r rest in
     let n-same : r .world .n ≡ n = ap (λ t. t .n) (run-terms w store first) in
     let n-same′ : r′ .world .n ≡ r .world .n = ap (λ t. t .n) (run-terms (r .world) (r .store) rest) in
     let inv : Invariant (r .world) (r .store) (r .records) =
-    run-keeps w store first [] (new-invariant n c a willing store (sized n c a willing e .high)) in
+    run-keeps w store first [] (new-invariant n weights c a willing store (sized n weights c a willing e .high)) in
     let inv′ : Invariant (r′ .world) (r′ .store) (r .records ++ r′ .records) =
     run-keeps (r .world) (r .store) rest (r .records) inv in
     let shaped : Shaped (r .world) =
-    subst (λ x. Shaped (run x store first .world)) (fresh-new n c a willing e) (fresh-whole n c a willing store first e .shaped) in
+    subst (λ x. Shaped (run x store first .world)) (fresh-new n weights c a willing e) (fresh-whole n weights c a willing store first e .shaped) in
     let active : Says State·.Active j (r .records) =
     says-active (stateOf (siteOf (r .world) j)) j (r .records) (d .empty) (says (inv .sites j (omega arith))) in
     record {
@@ -76,8 +76,8 @@ zero-no-row store first rest k there =
     omega (arith, ap (λ w. w .rows) (again ∙ same))
 
 pub never-says-yes : NeverSaysYes
-never-says-yes n c a willing store first rest j k less d there =
-    by-equal (sizesNumber n c a willing) 0
-    (λ e. rw (fresh-new n c a willing e)
-    (new-no-yes n c a willing store first rest j k less e (rw (fresh-new n c a willing e) at d) (rw (fresh-new n c a willing e) at there)))
-    (λ e. absurd (zero-no-row store first rest k (rw (fresh-zero n c a willing e) at there)))
+never-says-yes n weights c a willing store first rest j k less d there =
+    by-equal (sizesNumber n weights c a willing) 0
+    (λ e. rw (fresh-new n weights c a willing e)
+    (new-no-yes n weights c a willing store first rest j k less e (rw (fresh-new n weights c a willing e) at d) (rw (fresh-new n weights c a willing e) at there)))
+    (λ e. absurd (zero-no-row store first rest k (rw (fresh-zero n weights c a willing e) at there)))

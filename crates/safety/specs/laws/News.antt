@@ -10,7 +10,7 @@ use lib.Seq.{getD-set-other}
 use borrow.Author.Tests.{eq-eqb, ne-eqb}
 use Rattle.choice.specs.Choice.{pick, either}
 use Rattle.choice.specs.laws.Cases.{by-test, by-equal}
-use Rattle.choice.specs.laws.Stores.{sumTo}
+use Rattle.choice.specs.Places.{sumTo}
 use Rattle.merging.specs.Merging.{rises, mergeEntry, isOther, merging}
 use Rattle.merging.specs.laws.Orders.{other-on, other-own}
 use Rattle.merging.specs.laws.MergeLaws.{merging-at, entry-changed, entry-kept}
@@ -84,15 +84,15 @@ run-adds w store (a ∷ asks) =
     omega (arith, call-adds w store a, run-adds (callOf w store a .world) (callOf w store a .store) asks)
 
 -- the maker's world has none
-pub fresh-none : (n : ℕ) (c : CommitQuorum) (a : AbortQuorum) (willing : ℕ) → freshWorld n c a willing .news ≡ 0
+pub fresh-none : (n : ℕ) (weights : List ℕ) (c : CommitQuorum) (a : AbortQuorum) (willing : ℕ) → freshWorld n weights c a willing .news ≡ 0
 unfolding newWorld zeroWorld
-fresh-none n c a willing =
-    by-equal (sizesNumber n c a willing) 0
-    (λ e. ap (λ w. w .news) (fresh-new n c a willing e)) (λ e. ap (λ w. w .news) (fresh-zero n c a willing e))
+fresh-none n weights c a willing =
+    by-equal (sizesNumber n weights c a willing) 0
+    (λ e. ap (λ w. w .news) (fresh-new n weights c a willing e)) (λ e. ap (λ w. w .news) (fresh-zero n weights c a willing e))
 
 pub news-is-sum : NewsIsSum
-news-is-sum n c a willing store asks =
-    omega (arith, run-adds (freshWorld n c a willing) store asks, fresh-none n c a willing)
+news-is-sum n weights c a willing store asks =
+    omega (arith, run-adds (freshWorld n weights c a willing) store asks, fresh-none n weights c a willing)
 
 -- the entries that a merge raises are those of other sites that differ after it
 
@@ -207,18 +207,18 @@ pub quiet-start : (n : ℕ) (willing : Bool) (s : Site) → start n willing s .s
 unfolding start commanding
 quiet-start n willing s = search (quiet-pick, refl)
 
-quiet-timeoutIn : (st : State) (own n : ℕ) (c : CommitQuorum) (a : AbortQuorum) (s : Site) → timeoutIn st own n c a s .step .news ≡ 0
+quiet-timeoutIn : (st : State) (own n : ℕ) (weights : List ℕ) (c : CommitQuorum) (a : AbortQuorum) (s : Site) → timeoutIn st own n weights c a s .step .news ≡ 0
 unfolding timeoutIn silent takeOver chooseGroup decideCommit decideAbort commanding
-quiet-timeoutIn State·.Active own n c a s = refl
-quiet-timeoutIn State·.Prepared own n c a s = search (quiet-pick, refl)
-quiet-timeoutIn State·.CommitGroup own n c a s = search (quiet-pick, refl)
-quiet-timeoutIn State·.AbortGroup own n c a s = search (quiet-pick, refl)
-quiet-timeoutIn State·.Committed own n c a s = refl
-quiet-timeoutIn State·.Aborted own n c a s = refl
+quiet-timeoutIn State·.Active own n weights c a s = refl
+quiet-timeoutIn State·.Prepared own n weights c a s = search (quiet-pick, refl)
+quiet-timeoutIn State·.CommitGroup own n weights c a s = search (quiet-pick, refl)
+quiet-timeoutIn State·.AbortGroup own n weights c a s = search (quiet-pick, refl)
+quiet-timeoutIn State·.Committed own n weights c a s = refl
+quiet-timeoutIn State·.Aborted own n weights c a s = refl
 
-pub quiet-timeout : (own n : ℕ) (c : CommitQuorum) (a : AbortQuorum) (s : Site) → timeout own n c a s .step .news ≡ 0
+pub quiet-timeout : (own n : ℕ) (weights : List ℕ) (c : CommitQuorum) (a : AbortQuorum) (s : Site) → timeout own n weights c a s .step .news ≡ 0
 unfolding timeout
-quiet-timeout own n c a s = quiet-timeoutIn (stateOf s) own n c a s
+quiet-timeout own n weights c a s = quiet-timeoutIn (stateOf s) own n weights c a s
 
 pub quiet-crash : (own : ℕ) (s : Site) → crash own s .step .news ≡ 0
 unfolding crash silent

@@ -55,12 +55,12 @@ whole-passes w whole =
     }
 
 pub fresh-whole :
-    (n : ℕ) (c : CommitQuorum) (a : AbortQuorum) (willing : ℕ) (store : List ℕ) (asks : List Ask) →
-    sizesNumber n c a willing ≡ 0 → Whole (run (freshWorld n c a willing) store asks .world)
-fresh-whole n c a willing store asks e =
-    run-whole (freshWorld n c a willing) store asks
-    (record { shaped = shaped-fresh n c a willing; valid = fresh-valid n c a willing e })
+    (n : ℕ) (weights : List ℕ) (c : CommitQuorum) (a : AbortQuorum) (willing : ℕ) (store : List ℕ) (asks : List Ask) →
+    sizesNumber n weights c a willing ≡ 0 → Whole (run (freshWorld n weights c a willing) store asks .world)
+fresh-whole n weights c a willing store asks e =
+    run-whole (freshWorld n weights c a willing) store asks
+    (record { shaped = shaped-fresh n weights c a willing; valid = fresh-valid n weights c a willing e })
 
 pub runs-pass : RunsPass
-runs-pass n c a willing store asks e =
-    whole-passes (run (freshWorld n c a willing) store asks .world) (fresh-whole n c a willing store asks e)
+runs-pass n weights c a willing store asks e =
+    whole-passes (run (freshWorld n weights c a willing) store asks .world) (fresh-whole n weights c a willing store asks e)

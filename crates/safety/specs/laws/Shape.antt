@@ -47,13 +47,13 @@ long-blank : (b : Bool) → Long (blankSite b)
 unfolding blankSite zeroVector
 long-blank b = record { codes = refl; joined = refl }
 
-pub shaped-fresh : (n : ℕ) (c : CommitQuorum) (a : AbortQuorum) (willing : ℕ) → Shaped (freshWorld n c a willing)
+pub shaped-fresh : (n : ℕ) (weights : List ℕ) (c : CommitQuorum) (a : AbortQuorum) (willing : ℕ) → Shaped (freshWorld n weights c a willing)
 unfolding freshWorld newWorld zeroWorld siteOf freshSites
-shaped-fresh n c a willing =
-    pick-ind Shaped (eqb (sizesNumber n c a willing) 0) (newWorld n c a willing) zeroWorld
-    (λ e. shaped-by (newWorld n c a willing) (fresh-length n)
+shaped-fresh n weights c a willing =
+    pick-ind Shaped (eqb (sizesNumber n weights c a willing) 0) (newWorld n weights c a willing) zeroWorld
+    (λ e. shaped-by (newWorld n weights c a willing) (fresh-length n)
     (λ j. fresh-blank Long (long-blank true) (long-blank false) n j
-    (sized n c a willing (eqb-true (sizesNumber n c a willing) 0 e) .high)))
+    (sized n weights c a willing (eqb-true (sizesNumber n weights c a willing) 0 e) .high)))
     (λ _. shaped-by zeroWorld (fresh-length 0) (λ j. fresh-blank Long (long-blank true) (long-blank false) 0 j (omega arith)))
 
 -- the rules

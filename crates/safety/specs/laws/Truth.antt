@@ -7,7 +7,7 @@ use lib.ListN.{length, getD}
 use Rattle.choice.specs.Choice.{pick}
 use Rattle.row.specs.declared.Row.{Row}
 use Rattle.bits.specs.Bits.{hasBit}
-use Rattle.vector.specs.Vector.{siteWeight}
+use Rattle.weights.specs.Weights.{weightOf}
 use Rattle.site.specs.declared.CommitQuorum.{CommitQuorum}
 use Rattle.site.specs.declared.AbortQuorum.{AbortQuorum}
 use Rattle.site.specs.declared.Group.{Group}
@@ -29,9 +29,9 @@ pub record Terms : Type 0 where
   pub abort : ℕ
   pub willing : ℕ
 
--- the terms of a competition in which every site weighs 1
-abbrev pub siteTerms : ℕ → CommitQuorum → AbortQuorum → ℕ → Terms
-siteTerms n c a willing = record { n = n; weight = siteWeight; commit = c .0; abort = a .0; willing = willing }
+-- the terms of a competition
+abbrev pub siteTerms : ℕ → List ℕ → CommitQuorum → AbortQuorum → ℕ → Terms
+siteTerms n weights c a willing = record { n = n; weight = weightOf weights; commit = c .0; abort = a .0; willing = willing }
 
 -- every site below n has written P
 pub record AllPrepared (n : ℕ) (H : List Written) : Type 0 where

@@ -20,7 +20,7 @@ use Rattle.site.specs.declared.Site.{Site}
 use Rattle.site.specs.State.{stateBy, stateOf, codeOf, isTerminated, isActive}
 use Rattle.site.specs.Fields.{zeroVector}
 use Rattle.site.specs.Records.{Written}
-use Rattle.choice.specs.laws.Stores.{sumTo}
+use Rattle.choice.specs.Places.{sumTo}
 use Rattle.safety.specs.Claims.{writtenAt}
 use Rattle.safety.specs.laws.HistoryLaws.{Grown, at-append, grown-append}
 use Rattle.safety.specs.laws.Weights.{weighRecords, weight-from, weights-apart, entries-backed}

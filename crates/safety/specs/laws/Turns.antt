@@ -206,41 +206,41 @@ module _ (own n : ℕ) (Q : Site → List Written → Type 0) (steady : Steady o
       (commanding 4 own n (joinGroup abort own s) (wrote own (groupRecord abort) ∷ []))
       (λ _. steady .writes .joins commit s [] o q) (λ _. steady .writes .joins abort s [] o q)
 
-  keeps-decideCommit : (c : CommitQuorum) (s : Site) → s .outcome ≡ Outcome·.None → Q s [] → Moved Q (decideCommit own n c s)
+  keeps-decideCommit : (weights : List ℕ) (c : CommitQuorum) (s : Site) → s .outcome ≡ Outcome·.None → Q s [] → Moved Q (decideCommit own n weights c s)
   unfolding Moved decideCommit commanding
-  keeps-decideCommit c s o q =
-      pick-ind (Moved Q) (commitReached c n (s .codes))
+  keeps-decideCommit weights c s o q =
+      pick-ind (Moved Q) (commitReached c weights n (s .codes))
       (commanding 6 own n (writeOutcome commit own s) (wrote own (outcomeRecord commit) ∷ []))
       (commanding 3 own n s [])
       (λ _. steady .writes .decides commit s [] o q) (λ _. q)
 
-  keeps-decideAbort : (a : AbortQuorum) (s : Site) → s .outcome ≡ Outcome·.None → Q s [] → Moved Q (decideAbort own n a s)
+  keeps-decideAbort : (weights : List ℕ) (a : AbortQuorum) (s : Site) → s .outcome ≡ Outcome·.None → Q s [] → Moved Q (decideAbort own n weights a s)
   unfolding Moved decideAbort commanding
-  keeps-decideAbort a s o q =
-      pick-ind (Moved Q) (abortReached a n (s .codes))
+  keeps-decideAbort weights a s o q =
+      pick-ind (Moved Q) (abortReached a weights n (s .codes))
       (commanding 6 own n (writeOutcome abort own s) (wrote own (outcomeRecord abort) ∷ []))
       (commanding 4 own n s [])
       (λ _. steady .writes .decides abort s [] o q) (λ _. q)
 
   keeps-timeoutIn :
-      (st : State) (c : CommitQuorum) (a : AbortQuorum) (s : Site) → stateOf s ≡ st → Q s [] → Moved Q (timeoutIn st own n c a s)
+      (st : State) (weights : List ℕ) (c : CommitQuorum) (a : AbortQuorum) (s : Site) → stateOf s ≡ st → Q s [] → Moved Q (timeoutIn st own n weights c a s)
   unfolding Moved timeoutIn silent isTerminated
-  keeps-timeoutIn State·.Active c a s e q = steady .writes .decides abort s [] (active-undecided s e) q
-  keeps-timeoutIn State·.Prepared c a s e q =
+  keeps-timeoutIn State·.Active weights c a s e q = steady .writes .decides abort s [] (active-undecided s e) q
+  keeps-timeoutIn State·.Prepared weights c a s e q =
       pick-ind (Moved Q) (s .coordinator) (chooseGroup own n s) (takeOver 1 own n s)
       (λ _. keeps-chooseGroup s (undecided s State·.Prepared e refl) q) (λ _. keeps-takeOver 1 s q)
-  keeps-timeoutIn State·.CommitGroup c a s e q =
-      pick-ind (Moved Q) (s .coordinator) (decideCommit own n c s) (takeOver 3 own n s)
-      (λ _. keeps-decideCommit c s (undecided s State·.CommitGroup e refl) q) (λ _. keeps-takeOver 3 s q)
-  keeps-timeoutIn State·.AbortGroup c a s e q =
-      pick-ind (Moved Q) (s .coordinator) (decideAbort own n a s) (takeOver 4 own n s)
-      (λ _. keeps-decideAbort a s (undecided s State·.AbortGroup e refl) q) (λ _. keeps-takeOver 4 s q)
-  keeps-timeoutIn State·.Committed c a s e q = keeps-takeOver 6 s q
-  keeps-timeoutIn State·.Aborted c a s e q = keeps-takeOver 6 s q
+  keeps-timeoutIn State·.CommitGroup weights c a s e q =
+      pick-ind (Moved Q) (s .coordinator) (decideCommit own n weights c s) (takeOver 3 own n s)
+      (λ _. keeps-decideCommit weights c s (undecided s State·.CommitGroup e refl) q) (λ _. keeps-takeOver 3 s q)
+  keeps-timeoutIn State·.AbortGroup weights c a s e q =
+      pick-ind (Moved Q) (s .coordinator) (decideAbort own n weights a s) (takeOver 4 own n s)
+      (λ _. keeps-decideAbort weights a s (undecided s State·.AbortGroup e refl) q) (λ _. keeps-takeOver 4 s q)
+  keeps-timeoutIn State·.Committed weights c a s e q = keeps-takeOver 6 s q
+  keeps-timeoutIn State·.Aborted weights c a s e q = keeps-takeOver 6 s q
 
-  keeps-timeout : (c : CommitQuorum) (a : AbortQuorum) (s : Site) → Q s [] → Moved Q (timeout own n c a s)
+  keeps-timeout : (weights : List ℕ) (c : CommitQuorum) (a : AbortQuorum) (s : Site) → Q s [] → Moved Q (timeout own n weights c a s)
   unfolding timeout
-  keeps-timeout c a s q = keeps-timeoutIn (stateOf s) c a s refl q
+  keeps-timeout weights c a s q = keeps-timeoutIn (stateOf s) weights c a s refl q
 
   keeps-deliver :
       (willing : Bool) (row : Row) (s : Site) → rowKnown n row ≡ true → Q s [] → Moved Q (deliver own n willing row s)
@@ -284,7 +284,7 @@ pub turn-keeps :
 unfolding Moved
 turn-keeps w store own m Q steady (by-start up active) q =
     keeps-start (w .n) Q steady (isWilling w 0) (siteOf w 0) (is-active (stateOf (siteOf w 0)) active) q
-turn-keeps w store own m Q steady (by-timeout i up) q = keeps-timeout i (w .n) Q steady (w .commit) (w .abort) (siteOf w i) q
+turn-keeps w store own m Q steady (by-timeout i up) q = keeps-timeout i (w .n) Q steady (w .weights) (w .commit) (w .abort) (siteOf w i) q
 turn-keeps w store own m Q steady (by-deliver i k up there known) q =
     keeps-deliver i (w .n) Q steady (isWilling w i) (getRow store k) (siteOf w i) known q
 turn-keeps w store own m Q steady (by-crash i up) q = keeps-crash i (w .n) Q steady (siteOf w i) q

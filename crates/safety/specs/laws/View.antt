@@ -18,7 +18,7 @@ pub data Turn (w : World) (store : List ℕ) : ℕ → Move → Type 0 where
   by-start :
       siteOf w 0 .up ≡ true → isActive (stateOf (siteOf w 0)) ≡ true →
       Turn w store 0 (start (w .n) (isWilling w 0) (siteOf w 0))
-  by-timeout : (i : ℕ) → siteOf w i .up ≡ true → Turn w store i (timeout i (w .n) (w .commit) (w .abort) (siteOf w i))
+  by-timeout : (i : ℕ) → siteOf w i .up ≡ true → Turn w store i (timeout i (w .n) (w .weights) (w .commit) (w .abort) (siteOf w i))
   by-deliver :
       (i k : ℕ) → siteOf w i .up ≡ true → k < w .rows → rowKnown (w .n) (getRow store k) ≡ true →
       Turn w store i (deliver i (w .n) (isWilling w i) (getRow store k) (siteOf w i))

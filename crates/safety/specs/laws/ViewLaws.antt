@@ -81,11 +81,11 @@ module _ (w : World) (store : List ℕ) (valid : validWorld w ≡ true) (room : 
   unfolding timeoutCall
   seen-timeout next i =
       pick-ind (Seen w store) (ltb i (w .n))
-      (pick (siteOf w i .up) (enter w store at next i (timeout i (w .n) (w .commit) (w .abort) (siteOf w i)))
+      (pick (siteOf w i .up) (enter w store at next i (timeout i (w .n) (w .weights) (w .commit) (w .abort) (siteOf w i)))
       (refuse 12 w store at)) (refuse 8 w store at)
       (λ below. pick-ind (Seen w store) (siteOf w i .up)
-      (enter w store at next i (timeout i (w .n) (w .commit) (w .abort) (siteOf w i))) (refuse 12 w store at)
-      (λ up. seen-enter next i (timeout i (w .n) (w .commit) (w .abort) (siteOf w i)) (ltb-true i (w .n) below) (by-timeout i up))
+      (enter w store at next i (timeout i (w .n) (w .weights) (w .commit) (w .abort) (siteOf w i))) (refuse 12 w store at)
+      (λ up. seen-enter next i (timeout i (w .n) (w .weights) (w .commit) (w .abort) (siteOf w i)) (ltb-true i (w .n) below) (by-timeout i up))
       (λ _. as-refused 12 at (omega arith)))
       (λ _. as-refused 8 at (omega arith))
 

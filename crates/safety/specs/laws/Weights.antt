@@ -8,10 +8,10 @@ use lib.ListN.{getD}
 use borrow.Author.Tests.{lt-ltb, ltb-true, ltb-false, eqb-true}
 use Rattle.choice.specs.Choice.{pick}
 use Rattle.vector.specs.Codes.{isOutcome}
-use Rattle.vector.specs.Vector.{entryWeight, weigh, siteWeight, firstOutcome, lowestOutcome}
+use Rattle.vector.specs.Vector.{entryWeight, weigh, firstOutcome, lowestOutcome}
 use Rattle.site.specs.Records.{Written}
 use Rattle.choice.specs.laws.Cases.{by-test, by-equal}
-use Rattle.choice.specs.laws.Stores.{sumTo, sum-times}
+use Rattle.choice.specs.Places.{sumTo}
 use Rattle.safety.specs.Claims.{writtenAt}
 use Rattle.safety.specs.laws.HistoryLaws.{Grown}
 
@@ -23,11 +23,6 @@ siteShare weight code k H = pick (ltb 0 (writtenAt k code H)) (weight k) 0
 unfoldable pub weighRecords : (ℕ → ℕ) → ℕ → ℕ → List Written → ℕ
 weighRecords weight zero code H = 0
 weighRecords weight (suc k) code H = weighRecords weight k code H + siteShare weight code k H
-
--- the weight of all sites below n is a sum; where each weighs 1 it is n
-pub total-sites : (n : ℕ) → sumTo siteWeight n ≡ n
-unfolding siteWeight
-total-sites n = omega (arith, sum-times 1 n)
 
 module _ (weight : ℕ → ℕ) where
   share-written : (code k : ℕ) (H : List Written) → 1 ≤ writtenAt k code H → siteShare weight code k H ≡ weight k
@@ -104,8 +99,8 @@ module _ (weight : ℕ → ℕ) where
       below (i, less, same) = (i, omega arith, same)
 
 -- entries are at most as many as the sites
-count-most : (n code : ℕ) (v : List ℕ) → weigh siteWeight n v code ≤ n
-unfolding weigh entryWeight siteWeight
+count-most : (n code : ℕ) (v : List ℕ) → weigh (λ _. 1) n v code ≤ n
+unfolding weigh entryWeight
 count-most zero code v = omega arith
 count-most (suc k) code v =
     by-test (eqb (getD v k 0) code)
@@ -113,8 +108,8 @@ count-most (suc k) code v =
     (λ e. rw e (omega (arith, count-most k code v)))
 
 -- as many as the sites: every entry is the code
-pub count-all : (n code : ℕ) (v : List ℕ) → weigh siteWeight n v code ≡ n → (i : ℕ) → i < n → getD v i 0 ≡ code
-unfolding weigh entryWeight siteWeight
+pub count-all : (n code : ℕ) (v : List ℕ) → weigh (λ _. 1) n v code ≡ n → (i : ℕ) → i < n → getD v i 0 ≡ code
+unfolding weigh entryWeight
 count-all zero code v h i less = absurd (omega arith)
 count-all (suc k) code v h i less =
     by-test (eqb (getD v k 0) code)

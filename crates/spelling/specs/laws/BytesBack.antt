@@ -11,6 +11,7 @@ use lib.Seq.{drop-cons, getD-drop}
 use borrow.Author.Tests.{lt-ltb, ltb-true, le-leb, leb-true, eqb-true}
 use Rattle.choice.specs.Choice.{pick}
 use Rattle.choice.specs.laws.Cases.{by-test}
+use Rattle.word.specs.Words.{wordAt}
 use Rattle.command.specs.declared.Target.{Target}
 use Rattle.command.specs.declared.Delivery.{Delivery}
 use Rattle.command.specs.declared.Command.{Command}
@@ -20,7 +21,7 @@ use Rattle.command.specs.declared.Reading.{Reading}
 use Rattle.command.specs.declared.Reading.the-variants as Reading·
 use Rattle.command.specs.Commands.{found, refused, target, delivery, readTarget, readDelivery, readByte, readCommand}
 use Rattle.header.specs.declared.Header.{Header}
-use Rattle.header.specs.Headers.{headerOf}
+use Rattle.header.specs.Headers.{firstHeader}
 use Rattle.spelling.specs.Spelling.{headerBytes, commandBytes}
 use Rattle.spelling.specs.Ranges.{HeaderInRange, InRange}
 use Rattle.spelling.specs.Script.{spelledBy}
@@ -57,15 +58,15 @@ unfolding bytesOf
 list-length h commands = omega (arith, length-append (headerBytes h) (spelledBy commandBytes commands), length-header h)
 
 -- the bytes that a list begins with are read as their header
-pub header-reads : (h : Header) (t : List ℕ) → HeaderInRange h → headerOf (headerBytes h ++ t) ≡ h
-unfolding headerBytes headerOf
+pub header-reads : (h : Header) (t : List ℕ) → HeaderInRange h → firstHeader (headerBytes h ++ t) ≡ h
+unfolding headerBytes firstHeader wordAt
 header-reads h t ok = rw (whole (h .willing))
 
 -- a header that is read is what the list begins with
 pub header-spelt :
     (list : List ℕ) → ((i : ℕ) → getD list i 0 < 256) → 5 ≤ length list →
-    list ≡ headerBytes (headerOf list) ++ drop 5 list
-unfolding headerBytes headerOf
+    list ≡ headerBytes (firstHeader list) ++ drop 5 list
+unfolding headerBytes firstHeader wordAt
 header-spelt list bytes room =
     rw (low-byte (getD list 3 0) (getD list 4 0) (bytes 3))
     (rw (high-byte (getD list 3 0) (getD list 4 0) (bytes 3))
@@ -73,8 +74,8 @@ header-spelt list bytes room =
     ∙ (rw (later-byte list 0 1 (omega arith), later-byte list 0 2 (omega arith), later-byte list 0 3 (omega arith), later-byte list 0 4 (omega arith)))))
 
 -- and its numbers are in range
-pub header-in-range : (list : List ℕ) → ((i : ℕ) → getD list i 0 < 256) → HeaderInRange (headerOf list)
-unfolding headerOf
+pub header-in-range : (list : List ℕ) → ((i : ℕ) → getD list i 0 < 256) → HeaderInRange (firstHeader list)
+unfolding firstHeader wordAt
 header-in-range list bytes =
     record { sites = bytes 0; commit = bytes 1; abort = bytes 2; willing = omega (arith, bytes 3, bytes 4) }
 

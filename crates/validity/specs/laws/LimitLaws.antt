@@ -71,10 +71,10 @@ validSite-by own s st code limits held p q r n l =
 pub validWorld-by :
     (w : World) →
     validWorld w
-    ≡ both (both (eqb (sizesNumber (w .n) (w .commit) (w .abort) (w .willing)) 0) (both (leb (w .rows) maxRows) (leb (w .news) maxNews)))
+    ≡ both (both (eqb (sizesNumber (w .n) (w .weights) (w .commit) (w .abort) (w .willing)) 0) (both (leb (w .rows) maxRows) (leb (w .news) maxNews)))
     (validSites (w .n) w)
 unfolding validWorld
 validWorld-by w =
-    let fit : Bool = eqb (sizesNumber (w .n) (w .commit) (w .abort) (w .willing)) 0 in
+    let fit : Bool = eqb (sizesNumber (w .n) (w .weights) (w .commit) (w .abort) (w .willing)) 0 in
     sym (both-joined fit (both (leb (w .rows) maxRows) (leb (w .news) maxNews)) (validSites (w .n) w)
     ∙ ap (both fit) (both-joined (leb (w .rows) maxRows) (leb (w .news) maxNews) (validSites (w .n) w)))

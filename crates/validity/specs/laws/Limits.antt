@@ -10,7 +10,8 @@ use borrow.Author.Tests.{le-ltb, le-leb, lt-leb, eq-eqb, ne-eqb, ltb-true, ltb-f
 use Rattle.choice.specs.Choice.{pick, both}
 use Rattle.choice.specs.laws.ChoiceLaws.{pick-off, both-first, both-second}
 use Rattle.choice.specs.laws.Cases.{by-test, by-equal}
-use Rattle.choice.specs.laws.Stores.{storedTo, stored-at, stored-else}
+use Rattle.choice.specs.Places.{storedTo}
+use Rattle.choice.specs.laws.Stores.{stored-at, stored-else}
 use Rattle.vector.specs.Vector.{validEntry, validEntries, validVector}
 
 -- the limits for n sites

@@ -19,7 +19,7 @@ use Rattle.choice.specs.laws.Cases.{by-equal}
 
 -- the four parts of 17
 pub record ValidParts (w : World) : Type 0 where
-  pub sizes : sizesNumber (w .n) (w .commit) (w .abort) (w .willing) ≡ 0
+  pub sizes : sizesNumber (w .n) (w .weights) (w .commit) (w .abort) (w .willing) ≡ 0
   pub rows : w .rows ≤ maxRows
   pub news : w .news ≤ maxNews
   pub sites : (k : ℕ) → k < w .n → validSite k (w .n) (siteOf w k) ≡ true
@@ -41,14 +41,14 @@ sites-all (suc k) w h =
 pub valid-parts : (w : World) → validWorld w ≡ true → ValidParts w
 unfolding validWorld
 valid-parts w e =
-    let fit : Bool = eqb (sizesNumber (w .n) (w .commit) (w .abort) (w .willing)) 0 in
+    let fit : Bool = eqb (sizesNumber (w .n) (w .weights) (w .commit) (w .abort) (w .willing)) 0 in
     let few : Bool = leb (w .rows) maxRows in
     let low : Bool = leb (w .news) maxNews in
     let rest : both few (both low (validSites (w .n) w)) ≡ true = both-second fit (both few (both low (validSites (w .n) w))) e in
     let last : both low (validSites (w .n) w) ≡ true = both-second few (both low (validSites (w .n) w)) rest in
     record {
       sizes =
-          eqb-true (sizesNumber (w .n) (w .commit) (w .abort) (w .willing)) 0
+          eqb-true (sizesNumber (w .n) (w .weights) (w .commit) (w .abort) (w .willing)) 0
           (both-first fit (both few (both low (validSites (w .n) w))) e);
       rows = leb-true (w .rows) maxRows (both-first few (both low (validSites (w .n) w)) rest);
       news = leb-true (w .news) maxNews (both-first low (validSites (w .n) w) last);
@@ -58,7 +58,7 @@ valid-parts w e =
 pub valid-whole : (w : World) → ValidParts w → validWorld w ≡ true
 unfolding validWorld
 valid-whole w p =
-    both-on (eqb (sizesNumber (w .n) (w .commit) (w .abort) (w .willing)) 0)
+    both-on (eqb (sizesNumber (w .n) (w .weights) (w .commit) (w .abort) (w .willing)) 0)
     (both (leb (w .rows) maxRows) (both (leb (w .news) maxNews) (validSites (w .n) w))) (eq-eqb _ 0 (p .sizes))
     (both-on (leb (w .rows) maxRows) (both (leb (w .news) maxNews) (validSites (w .n) w))
     (le-leb (w .rows) maxRows (p .rows))
@@ -66,8 +66,8 @@ valid-whole w p =
     (sites-all (w .n) w (p .sites))))
 
 -- the sizes of a world that passes 17
-pub valid-sized : (w : World) → validWorld w ≡ true → Sized (w .n) (w .commit) (w .abort) (w .willing)
-valid-sized w e = sized (w .n) (w .commit) (w .abort) (w .willing) (valid-parts w e .sizes)
+pub valid-sized : (w : World) → validWorld w ≡ true → Sized (w .n) (w .weights) (w .commit) (w .abort) (w .willing)
+valid-sized w e = sized (w .n) (w .weights) (w .commit) (w .abort) (w .willing) (valid-parts w e .sizes)
 
 -- a claim of a site of the world after site `own` is put back
 pub put-ind :

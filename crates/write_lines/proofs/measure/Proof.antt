@@ -4,7 +4,7 @@ use Prim.Native.Nat.{_+_, _*_, _-_, _≤_}
 use mathlib.Core.Path.{sym, _∙_}
 use lib.ListN.{length}
 use Rattle.command.specs.Commands.{readCommand, refusalOf}
-use Rattle.header.specs.laws.HeaderLaws.{headed}
+use Rattle.header.specs.laws.HeaderLaws.{first-headed}
 use Rattle.spelling.specs.Spelling.{commandLine}
 use Rattle.spelling.specs.WriteRead.{listScript}
 use Rattle.spelling.specs.laws.BytesBack.{header-in-range, command-refused}
@@ -17,7 +17,7 @@ use Rattle.write_lines.proofs.measure.Reads as reads
 use Rattle.write_lines.proofs.measure.Lts as lts
 use Rattle.command.proofs.refusal_of.Reads as refusal-of-reads
 use Rattle.command.proofs.read_command.Reads as read-command-reads
-use Rattle.header.proofs.read_header.Reads as read-header-reads
+use Rattle.header.proofs.first_header.Reads as first-header-reads
 use Rattle.spelling.proofs.Spelled.refused.Reads as refused-reads
 use Rattle.spelling.proofs.header_line_length.Reads as header-line-length-reads
 use Rattle.spelling.proofs.line_length.Reads as line-length-reads
@@ -29,14 +29,14 @@ Inv-loop list n₀ at₀ n at =
 abbrev μ-loop : tie.MeasureT-loop
 μ-loop list n₀ at₀ n at = length list - at
 
-read-header-requires : tie.Need-read-header-requires Inv-loop μ-loop
-read-header-requires c κs = search needs
+first-header-requires : tie.Need-first-header-requires Inv-loop μ-loop
+first-header-requires c κs = search needs
 
 header-line-length-requires : tie.Need-header-line-length-requires Inv-loop μ-loop
-header-line-length-requires c κs = rw (c .read-header .ensures) (header-in-range (c .before .before .args .list .now) (λ i. c .before .shared-slice-known .given i .fits))
+header-line-length-requires c κs = rw (c .first-header .ensures) (header-in-range (c .before .before .args .list .now) (λ i. c .before .shared-slice-known .given i .fits))
 
 loop-holds : tie.Need-loop-holds Inv-loop μ-loop
-loop-holds c = (lines-begin (c .before .before .before .args .list .now) (λ i. c .before .before .shared-slice-known .given i .fits) _ (rw (c .before .read-header .ensures) at (c .header-line-length .ensures .0)), omega (arith, c .header-line-length .ensures .1))
+loop-holds c = (lines-begin (c .before .before .before .args .list .now) (λ i. c .before .before .shared-slice-known .given i .fits) _ (rw (c .before .first-header .ensures) at (c .header-line-length .ensures .0)), omega (arith, c .header-line-length .ensures .1))
 
 read-command-requires : tie.Need-read-command-requires Inv-loop μ-loop
 read-command-requires c κs = search needs
@@ -64,7 +64,7 @@ line-length-requires : tie.Need-line-length-requires Inv-loop μ-loop
 line-length-requires c κs = command-at (c .before .before .before .before .before .before .before .before .before .args .list .now) (λ i. c .before .before .before .before .before .before .before .before .shared-slice-known .given i .fits) _ _ (sym (c .before .before .before .read-command .ensures .0) ∙ c .before .reading .given .1) .in-range
 
 add-length : tie.Need-add-length Inv-loop μ-loop
-add-length c = omega (arith, headed (c .before .before .before .before .before .before .before .before .before .before .args .list .now) (c .before .before .before .before .before .before .before .before .before .before .pre) .small, c .before .before .before .before .before .before .loop .inv .1, c .before .before .before .before .before .loop-test .taken, c .line-length .ensures .1)
+add-length c = omega (arith, first-headed (c .before .before .before .before .before .before .before .before .before .before .args .list .now) (c .before .before .before .before .before .before .before .before .before .before .pre) .small, c .before .before .before .before .before .before .loop .inv .1, c .before .before .before .before .before .loop-test .taken, c .line-length .ensures .1)
 
 loop-less : tie.Need-loop-less Inv-loop μ-loop
 loop-less c = omega (arith, (list-forward (c .before .before .before .before .before .before .before .before .before .before .args .list .now) (λ i. c .before .before .before .before .before .before .before .before .before .shared-slice-known .given i .fits)) _ _ (c .before .before .before .before .before .loop-test .taken) (sym (c .before .before .before .before .read-command .ensures .0) ∙ c .before .before .reading .given .1))
@@ -85,7 +85,7 @@ measure-spec =
     (tie.spec
     Inv-loop
     μ-loop
-    read-header-requires
+    first-header-requires
     header-line-length-requires
     loop-holds
     read-command-requires

@@ -5,7 +5,7 @@ use mathlib.Core.Path.{sym, _∙_}
 use lib.ListN.{length, length-append}
 use Rattle.text.specs.laws.Written.{joined, written-length}
 use Rattle.command.specs.Commands.{readCommand}
-use Rattle.header.specs.Headers.{headerOf}
+use Rattle.header.specs.Headers.{firstHeader}
 use Rattle.spelling.specs.Spelling.{headerLine, commandLine}
 use Rattle.spelling.specs.Script.{spelledBy}
 use Rattle.spelling.specs.WriteRead.{listScript, linesOf}
@@ -17,7 +17,7 @@ use Rattle.write_lines.proofs.put_lines.Tie as tie
 use Rattle.write_lines.proofs.put_lines.Reads as reads
 use Rattle.write_lines.proofs.put_lines.Lts as lts
 use Rattle.command.proofs.read_command.Reads as read-command-reads
-use Rattle.header.proofs.read_header.Reads as read-header-reads
+use Rattle.header.proofs.first_header.Reads as first-header-reads
 use Rattle.spelling.proofs.put_header_line.Reads as put-header-line-reads
 use Rattle.spelling.proofs.put_line.Reads as put-line-reads
 
@@ -28,12 +28,12 @@ Inv-loop buffer₀ list next₀ at₀ buffer next at =
 abbrev μ-loop : tie.MeasureT-loop
 μ-loop buffer₀ list next₀ at₀ buffer next at = length list - at
 
-read-header-requires : tie.Need-read-header-requires Inv-loop μ-loop
-read-header-requires c κs = search needs
+first-header-requires : tie.Need-first-header-requires Inv-loop μ-loop
+first-header-requires c κs = search needs
 
 put-header-line-requires : tie.Need-put-header-line-requires Inv-loop μ-loop
 unfolding linesOf
-put-header-line-requires c κs = rw (c .read-header .ensures) (header-in-range (c .before .before .before .before .args .list .now) (λ i. c .before .before .shared-slice-known .given i .fits), omega (arith, c .before .before .before .before .pre, length-append (headerLine (headerOf (c .before .before .before .before .args .list .now))) (spelledBy commandLine (listScript (c .before .before .before .before .args .list .now) .commands))))
+put-header-line-requires c κs = rw (c .first-header .ensures) (header-in-range (c .before .before .before .before .args .list .now) (λ i. c .before .before .shared-slice-known .given i .fits), omega (arith, c .before .before .before .before .pre, length-append (headerLine (firstHeader (c .before .before .before .before .args .list .now))) (spelledBy commandLine (listScript (c .before .before .before .before .args .list .now) .commands))))
 
 loop-holds : tie.Need-loop-holds Inv-loop μ-loop
 unfolding listScript
@@ -53,11 +53,11 @@ same-length c = omega (arith, c .before .before .before .before .loop .inv .same
 
 returns : tie.Need-returns Inv-loop μ-loop
 unfolding linesOf
-returns c = joined (rw (c .before .before .before .before .before .before .before .before .read-header .ensures) at (c .before .before .before .before .before .before .before .put-header-line .ensures)) (putting-ends commandLine _ _ (list-forward (c .before .before .before .before .before .before .before .before .before .before .before .before .args .list .now) (λ i. c .before .before .before .before .before .before .before .before .before .before .shared-slice-known .given i .fits)) _ _ _ _ _ _ (c .before .before .before .before .loop .inv) (left-refused commandLine _ _ (list-forward (c .before .before .before .before .before .before .before .before .before .before .before .before .args .list .now) (λ i. c .before .before .before .before .before .before .before .before .before .before .shared-slice-known .given i .fits)) _ _ (c .before .before .before .loop-test .taken) (sym (c .before .before .read-command .ensures .0) ∙ c .enum-told .given .1)))
+returns c = joined (rw (c .before .before .before .before .before .before .before .before .first-header .ensures) at (c .before .before .before .before .before .before .before .put-header-line .ensures)) (putting-ends commandLine _ _ (list-forward (c .before .before .before .before .before .before .before .before .before .before .before .before .args .list .now) (λ i. c .before .before .before .before .before .before .before .before .before .before .shared-slice-known .given i .fits)) _ _ _ _ _ _ (c .before .before .before .before .loop .inv) (left-refused commandLine _ _ (list-forward (c .before .before .before .before .before .before .before .before .before .before .before .before .args .list .now) (λ i. c .before .before .before .before .before .before .before .before .before .before .shared-slice-known .given i .fits)) _ _ (c .before .before .before .loop-test .taken) (sym (c .before .before .read-command .ensures .0) ∙ c .enum-told .given .1)))
 
 put-line-requires : tie.Need-put-line-requires Inv-loop μ-loop
 unfolding linesOf
-put-line-requires c κs = (command-at (c .before .before .before .before .before .before .before .before .before .before .before .before .before .before .args .list .now) (λ i. c .before .before .before .before .before .before .before .before .before .before .before .before .shared-slice-known .given i .fits) _ _ (sym (c .before .before .before .before .read-command .ensures .0) ∙ c .before .before .reading .given .1) .in-range, putting-room commandLine _ _ (list-forward (c .before .before .before .before .before .before .before .before .before .before .before .before .before .before .args .list .now) (λ i. c .before .before .before .before .before .before .before .before .before .before .before .before .shared-slice-known .given i .fits)) _ _ _ _ _ _ (c .before .before .before .before .before .before .loop .inv) _ (c .before .before .before .before .before .loop-test .taken) (sym (c .before .before .before .before .read-command .ensures .0) ∙ c .before .before .reading .given .1) (room-after (spelledBy commandLine (listScript (c .before .before .before .before .before .before .before .before .before .before .before .before .before .before .args .list .now) .commands)) (rw (c .before .before .before .before .before .before .before .before .before .before .read-header .ensures) at (c .before .before .before .before .before .before .before .before .before .put-header-line .ensures)) (c .before .before .before .before .before .before .before .before .before .before .before .before .before .before .pre)))
+put-line-requires c κs = (command-at (c .before .before .before .before .before .before .before .before .before .before .before .before .before .before .args .list .now) (λ i. c .before .before .before .before .before .before .before .before .before .before .before .before .shared-slice-known .given i .fits) _ _ (sym (c .before .before .before .before .read-command .ensures .0) ∙ c .before .before .reading .given .1) .in-range, putting-room commandLine _ _ (list-forward (c .before .before .before .before .before .before .before .before .before .before .before .before .before .before .args .list .now) (λ i. c .before .before .before .before .before .before .before .before .before .before .before .before .shared-slice-known .given i .fits)) _ _ _ _ _ _ (c .before .before .before .before .before .before .loop .inv) _ (c .before .before .before .before .before .loop-test .taken) (sym (c .before .before .before .before .read-command .ensures .0) ∙ c .before .before .reading .given .1) (room-after (spelledBy commandLine (listScript (c .before .before .before .before .before .before .before .before .before .before .before .before .before .before .args .list .now) .commands)) (rw (c .before .before .before .before .before .before .before .before .before .before .first-header .ensures) at (c .before .before .before .before .before .before .before .before .before .put-header-line .ensures)) (c .before .before .before .before .before .before .before .before .before .before .before .before .before .before .pre)))
 
 loop-less : tie.Need-loop-less Inv-loop μ-loop
 loop-less c = omega (arith, (list-forward (c .before .before .before .before .before .before .before .before .before .before .before .before .before .before .before .before .before .args .list .now) (λ i. c .before .before .before .before .before .before .before .before .before .before .before .before .before .before .before .shared-slice-known .given i .fits)) _ _ (c .before .before .before .before .before .before .before .before .loop-test .taken) (sym (c .before .before .before .before .before .before .before .read-command .ensures .0) ∙ c .before .before .before .before .before .reading .given .1))
@@ -70,7 +70,7 @@ same-length-2 c = omega (arith, c .before .loop .inv .same-length, written-lengt
 
 returns-2 : tie.Need-returns-2 Inv-loop μ-loop
 unfolding linesOf
-returns-2 c = joined (rw (c .before .before .before .before .before .read-header .ensures) at (c .before .before .before .before .put-header-line .ensures)) (putting-ends commandLine _ _ (list-forward (c .before .before .before .before .before .before .before .before .before .args .list .now) (λ i. c .before .before .before .before .before .before .before .shared-slice-known .given i .fits)) _ _ _ _ _ _ (c .before .loop .inv) (left-end commandLine _ _ (list-forward (c .before .before .before .before .before .before .before .before .before .args .list .now) (λ i. c .before .before .before .before .before .before .before .shared-slice-known .given i .fits)) _ (c .loop-test .left)))
+returns-2 c = joined (rw (c .before .before .before .before .before .first-header .ensures) at (c .before .before .before .before .put-header-line .ensures)) (putting-ends commandLine _ _ (list-forward (c .before .before .before .before .before .before .before .before .before .args .list .now) (λ i. c .before .before .before .before .before .before .before .shared-slice-known .given i .fits)) _ _ _ _ _ _ (c .before .loop .inv) (left-end commandLine _ _ (list-forward (c .before .before .before .before .before .before .before .before .before .args .list .now) (λ i. c .before .before .before .before .before .before .before .shared-slice-known .given i .fits)) _ (c .loop-test .left)))
 
 pub put-lines-spec : {M : Type 1} → statement M
 put-lines-spec =
@@ -78,7 +78,7 @@ put-lines-spec =
     (tie.spec
     Inv-loop
     μ-loop
-    read-header-requires
+    first-header-requires
     put-header-line-requires
     loop-holds
     read-command-requires

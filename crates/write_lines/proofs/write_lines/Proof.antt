@@ -8,21 +8,21 @@ use Rattle.write_lines.proofs.write_lines.Statement.{statement}
 use Rattle.write_lines.proofs.write_lines.Tie as tie
 use Rattle.write_lines.proofs.write_lines.Reads as reads
 use Rattle.write_lines.proofs.write_lines.Lts as lts
-use Rattle.header.proofs.header_number.Reads as header-number-reads
+use Rattle.header.proofs.first_number.Reads as first-number-reads
 use Rattle.spelling.proofs.Spelled.refused.Reads as refused-reads
 use Rattle.write_lines.proofs.measure.Reads as measure-reads
 use Rattle.write_lines.proofs.put_lines.Reads as put-lines-reads
 
-header-number-requires : tie.Need-header-number-requires
-header-number-requires c κs = search needs
+first-number-requires : tie.Need-first-number-requires
+first-number-requires c κs = search needs
 
 refused-requires : tie.Need-refused-requires
 refused-requires c κs = search needs
 
 returns : tie.Need-returns
 unfolding refuse
-returns c = let e = write-header (c .before .before .before .before .before .args .list .now) (c .before .before .before .before .before .args .buffer .now) (rw (c .before .before .header-number .ensures) at (c .before .if1 .taken)) in
-    let a : c .refused .result ≡ writeLines (c .before .before .before .before .before .args .list .now) (c .before .before .before .before .before .args .buffer .now) .answer = rw e (rw (c .before .before .header-number .ensures) at (c .refused .ensures)) in
+returns c = let e = write-header (c .before .before .before .before .before .args .list .now) (c .before .before .before .before .before .args .buffer .now) (rw (c .before .before .first-number .ensures) at (c .before .if1 .taken)) in
+    let a : c .refused .result ≡ writeLines (c .before .before .before .before .before .args .list .now) (c .before .before .before .before .before .args .buffer .now) .answer = rw e (rw (c .before .before .first-number .ensures) at (c .refused .ensures)) in
     (a, (rw e, (rw (c .refused .ensures) (omega arith), rw a (write-inside (c .before .before .before .before .before .args .list .now) (λ i. c .before .before .before .before .shared-slice-known .given i .fits) (c .before .before .before .before .before .args .buffer .now)))))
 
 measure-requires : tie.Need-measure-requires
@@ -30,7 +30,7 @@ measure-requires c κs = search needs
 
 returns-2 : tie.Need-returns-2
 unfolding measured
-returns-2 c = let e = write-stopped (c .before .before .before .before .before .before .before .args .list .now) (c .before .before .before .before .before .before .before .args .buffer .now) (sym (c .before .before .before .before .header-number .ensures) ∙ c .before .before .before .if1 .left) (rw (c .before .before .measure .ensures) at (c .if2 .taken)) in
+returns-2 c = let e = write-stopped (c .before .before .before .before .before .before .before .args .list .now) (c .before .before .before .before .before .before .before .args .buffer .now) (sym (c .before .before .before .before .first-number .ensures) ∙ c .before .before .before .if1 .left) (rw (c .before .before .measure .ensures) at (c .if2 .taken)) in
     let a : c .before .before .measure .result ≡ writeLines (c .before .before .before .before .before .before .before .args .list .now) (c .before .before .before .before .before .before .before .args .buffer .now) .answer = rw e (c .before .before .measure .ensures) in
     (a, (rw e, (rw (c .before .before .measure .ensures) (omega (arith, ap (λ m. m .length) (stopped _ _ _ (rw (c .before .before .measure .ensures) at (c .if2 .taken)) .same))), rw a (write-inside (c .before .before .before .before .before .before .before .args .list .now) (λ i. c .before .before .before .before .before .before .shared-slice-known .given i .fits) (c .before .before .before .before .before .before .before .args .buffer .now)))))
 
@@ -39,7 +39,7 @@ refused-requires-2 c κs = search needs
 
 returns-3 : tie.Need-returns-3
 unfolding refuse
-returns-3 c = let e = write-room (c .before .before .before .before .before .before .before .before .before .before .args .list .now) (c .before .before .before .before .before .before .before .before .before .before .args .buffer .now) (sym (c .before .before .before .before .before .before .before .header-number .ensures) ∙ c .before .before .before .before .before .before .if1 .left) (sym (ap (λ m. m .number) (c .before .before .before .before .before .measure .ensures)) ∙ c .before .before .before .if2 .left) (rw (c .before .before .before .before .before .measure .ensures) at (c .before .if3 .taken)) in
+returns-3 c = let e = write-room (c .before .before .before .before .before .before .before .before .before .before .args .list .now) (c .before .before .before .before .before .before .before .before .before .before .args .buffer .now) (sym (c .before .before .before .before .before .before .before .first-number .ensures) ∙ c .before .before .before .before .before .before .if1 .left) (sym (ap (λ m. m .number) (c .before .before .before .before .before .measure .ensures)) ∙ c .before .before .before .if2 .left) (rw (c .before .before .before .before .before .measure .ensures) at (c .before .if3 .taken)) in
     let a : c .refused2 .result ≡ writeLines (c .before .before .before .before .before .before .before .before .before .before .args .list .now) (c .before .before .before .before .before .before .before .before .before .before .args .buffer .now) .answer = rw e (c .refused2 .ensures) in
     (a, (rw e, (rw (c .refused2 .ensures) (omega arith), rw a (write-inside (c .before .before .before .before .before .before .before .before .before .before .args .list .now) (λ i. c .before .before .before .before .before .before .before .before .before .shared-slice-known .given i .fits) (c .before .before .before .before .before .before .before .before .before .before .args .buffer .now)))))
 
@@ -52,7 +52,7 @@ same-length c = search needs
 
 returns-4 : tie.Need-returns-4
 unfolding textOf
-returns-4 c = let e = write-done (c .before .before .before .before .before .before .before .before .before .before .before .before .before .args .list .now) (c .before .before .before .before .before .before .before .before .before .before .before .before .before .args .buffer .now) (sym (c .before .before .before .before .before .before .before .before .before .before .header-number .ensures) ∙ c .before .before .before .before .before .before .before .before .before .if1 .left) (sym (ap (λ m. m .number) (c .before .before .before .before .before .before .before .before .measure .ensures)) ∙ c .before .before .before .before .before .before .if2 .left) _ _ (rw (c .before .before .before .before .before .before .before .before .measure .ensures) at (c .before .before .before .before .if3 .left)) (c .before .before .put-lines .ensures) in
+returns-4 c = let e = write-done (c .before .before .before .before .before .before .before .before .before .before .before .before .before .args .list .now) (c .before .before .before .before .before .before .before .before .before .before .before .before .before .args .buffer .now) (sym (c .before .before .before .before .before .before .before .before .before .before .first-number .ensures) ∙ c .before .before .before .before .before .before .before .before .before .if1 .left) (sym (ap (λ m. m .number) (c .before .before .before .before .before .before .before .before .measure .ensures)) ∙ c .before .before .before .before .before .before .if2 .left) _ _ (rw (c .before .before .before .before .before .before .before .before .measure .ensures) at (c .before .before .before .before .if3 .left)) (c .before .before .put-lines .ensures) in
     let a : c .before .before .before .before .before .before .before .before .measure .result ≡ writeLines (c .before .before .before .before .before .before .before .before .before .before .before .before .before .args .list .now) (c .before .before .before .before .before .before .before .before .before .before .before .before .before .args .buffer .now) .answer = rw e (c .before .before .before .before .before .before .before .before .measure .ensures) in
     (a, (rw e, (c .before .before .before .before .if3 .left, rw a (write-inside (c .before .before .before .before .before .before .before .before .before .before .before .before .before .args .list .now) (λ i. c .before .before .before .before .before .before .before .before .before .before .before .before .shared-slice-known .given i .fits) (c .before .before .before .before .before .before .before .before .before .before .before .before .before .args .buffer .now)))))
 
@@ -60,7 +60,7 @@ pub write-lines-spec : {M : Type 1} → statement M
 write-lines-spec =
     tie.close
     (tie.spec
-    header-number-requires
+    first-number-requires
     refused-requires
     returns
     measure-requires

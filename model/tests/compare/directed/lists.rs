@@ -1,9 +1,10 @@
 //! The worked days, and lengths of lists and buffers.
 
+use model::header::HEADER_BYTES;
 use model::layout::WORLD_BYTES;
 use model::quiet;
 use model::row::STORE_BYTES;
-use model::sizes::{HEADER_BYTES, MAX_LIST};
+use model::sizes::MAX_LIST;
 use model::world::MAX_ROWS;
 use model::{Command, Replies};
 

@@ -6,6 +6,7 @@ mod news;
 mod reports;
 mod senders;
 mod shared;
+mod weights;
 mod worlds;
 
 pub use commands::commands;
@@ -13,4 +14,5 @@ pub use lists::lists;
 pub use news::news;
 pub use reports::reports;
 pub use senders::senders;
+pub use weights::weights;
 pub use worlds::{every_byte, worlds};

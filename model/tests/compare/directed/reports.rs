@@ -7,7 +7,7 @@ use model::sizes::{everyone, MAX_LIST};
 use model::{number, Numbers, Sizes, World};
 
 use super::shared::{base, Done, SOME};
-use crate::common::widest;
+use crate::common::{weighted, widest};
 use crate::comparer::Comparer;
 
 /// Buffer lengths around the limit.
@@ -35,15 +35,17 @@ pub fn reports(both: &mut Comparer) -> Done {
     Ok(())
 }
 
-/// Worlds to report: fresh ones, the base, and the widest text there is.
+/// Worlds to report: fresh ones, the base, one of different weights, and the widest
+/// text there is.
 fn worlds() -> Vec<World> {
     let fresh = (3..=16).map(|n| World::fresh(Sizes::new(n, n - 1, n - 1, everyone(n))));
-    fresh.chain([base().0, widest()]).collect()
+    let heavy = World::fresh(weighted(&[200, 150, 100], 250, 201));
+    fresh.chain([base().0, heavy, widest()]).collect()
 }
 
 /// Every stop number there is, and some beyond.
 fn stops(both: &mut Comparer, world: &World, size: usize) -> Done {
-    let beyond = [21, 22, 255, 256, 257, 256 + 20, 1 << 16, u32::MAX];
+    let beyond = [22, 23, 255, 256, 257, 256 + 21, 1 << 16, u32::MAX];
     for stop in (0..=number::LAST.into()).chain(beyond) {
         let refused = (stop > number::LAST.into()).then_some("17 stop number");
         check(both, world, Numbers { stop, ..SOME }, size, refused)?;

@@ -3,7 +3,7 @@
 //! them.
 
 use model::calls::RESULT_BYTES;
-use model::layout::{encode, CODES, GROUP_CODES, HEAD_BYTES, SITE_BYTES, WORLD_BYTES};
+use model::layout::{encode, CODES, GROUP_CODES, HEAD_BYTES, SITES_AT, SITE_BYTES, WORLD_BYTES};
 use model::report::REPORT_BYTES;
 use model::row::STORE_BYTES;
 use model::sizes::MAX_SITES;
@@ -29,7 +29,7 @@ const GROUP: usize = 3;
 const OUTCOME: usize = 4;
 
 const fn at_site(site: usize, place: usize) -> usize {
-    HEAD_BYTES + SITE_BYTES * site + place
+    SITES_AT + SITE_BYTES * site + place
 }
 
 const fn code(site: usize, entry: usize) -> usize {
@@ -38,6 +38,10 @@ const fn code(site: usize, entry: usize) -> usize {
 
 const fn group_code(site: usize, entry: usize) -> usize {
     at_site(site, GROUP_CODES.start + entry)
+}
+
+const fn weight(site: usize) -> usize {
+    HEAD_BYTES + site
 }
 
 /// Places of the base world's bytes and what is put there.
@@ -56,6 +60,48 @@ const BROKEN: &[(&str, &[Patch])] = &[
         &[&[(A, 5)], &[(A + 1, 1)], &[(A, 255), (A + 1, 255)]],
     ),
     ("17 C + A under n + 1", &[&[(A, 2)], &[(C, 2)], &[(C, 0)]]),
+    (
+        "17 weight of 0",
+        &[&[(weight(0), 0)], &[(weight(2), 0)], &[(weight(4), 0)]],
+    ),
+    // Quorums that would fit the weights without the 0.
+    ("17 weight of 0", &[&[(weight(0), 0), (C, 3), (A, 2)]]),
+    (
+        "17 weight from n up not 0",
+        &[&[(weight(5), 1)], &[(weight(9), 255)], &[(weight(15), 1)]],
+    ),
+    // Seven in all, three of them one site's.
+    (
+        "17 C over W - h",
+        &[
+            &[(weight(1), 3), (C, 5), (A, 4)],
+            &[(weight(4), 3), (C, 7), (A, 4)],
+        ],
+    ),
+    (
+        "17 A over W - h",
+        &[
+            &[(weight(1), 3), (C, 4), (A, 5)],
+            &[(weight(4), 3), (C, 4), (A, 7)],
+        ],
+    ),
+    (
+        "17 C + A under W + 1",
+        &[
+            &[(weight(0), 2)],
+            &[(weight(3), 3), (C, 4)],
+            &[(weight(4), 2), (C, 4), (A, 2)],
+        ],
+    ),
+    // One site against all the others, and 255 beside 1s.
+    (
+        "17 no quorum without the heaviest",
+        &[
+            &[(weight(2), 4)],
+            &[(weight(2), 4), (C, 4), (A, 4)],
+            &[(weight(2), 255), (A, 255)],
+        ],
+    ),
     (
         "17 willing bit at n or above",
         &[&[(WILLING, 0b11_1111)], &[(WILLING + 1, 0x80)]],
@@ -160,6 +206,29 @@ const ODD: &[(&str, Patch)] = &[
     ("0 quorums as large as can be", &[(C, 4), (A, 4)]),
     ("0 quorums that just meet", &[(C, 2), (A, 4)]),
     (
+        "0 weighted quorums as large as can be",
+        &[(weight(1), 3), (C, 4), (A, 4)],
+    ),
+    (
+        "0 weighted quorums that just meet",
+        &[(weight(0), 2), (C, 4)],
+    ),
+    // 1,275 in all, and quorums of 1,020 and 256: each needs both its bytes.
+    (
+        "0 weights of 255",
+        &[
+            (weight(0), 255),
+            (weight(1), 255),
+            (weight(2), 255),
+            (weight(3), 255),
+            (weight(4), 255),
+            (C, 0xfc),
+            (C + 1, 3),
+            (A, 0),
+            (A + 1, 1),
+        ],
+    ),
+    (
         "0 news of 491,520",
         &[(NEWS, 0), (NEWS + 1, 0x80), (NEWS + 2, 7)],
     ),
@@ -201,7 +270,8 @@ fn outside() -> Vec<(&'static str, Vec<u8>)> {
         ("17 layout: length", good[..1].to_vec()),
         ("17 layout: number", patched(&[(0, 0)])),
         ("17 layout: number", patched(&[(0, 1)])),
-        ("17 layout: number", patched(&[(0, 3)])),
+        ("17 layout: number", patched(&[(0, 2)])),
+        ("17 layout: number", patched(&[(0, 4)])),
         ("17 layout: number", patched(&[(0, 255)])),
     ];
     for at in 14..HEAD_BYTES {

@@ -5,7 +5,7 @@ use model::calls::Rules;
 use model::flaw::Flaw;
 use model::lines::{command_of, sizes_of, Refusal};
 use model::sizes::MAX_LIST;
-use model::{number, read_lines, write_lines, Ask, Command, Output};
+use model::{number, read_lines, write_lines, Ask, Command, Edition, Header, Output};
 
 #[derive(Clone, Copy, Debug, PartialEq, Eq)]
 pub enum Fault {
@@ -49,9 +49,11 @@ pub enum Fault {
     AsksSites,
     /// The writer loses the high byte of a row number.
     LosesHighByte,
+    /// The writer takes a list of the second edition for one.
+    TakesSecondEdition,
 }
 
-const OTHERS: [Fault; 18] = [
+const OTHERS: [Fault; 19] = [
     Fault::GivesLineEnd,
     Fault::GivesLastBadLine,
     Fault::GivesNextByte,
@@ -70,6 +72,7 @@ const OTHERS: [Fault; 18] = [
     Fault::FearsLongestList,
     Fault::AsksSites,
     Fault::LosesHighByte,
+    Fault::TakesSecondEdition,
 ];
 
 /// Every fault there is.
@@ -87,6 +90,9 @@ impl Rules for Faulty {
         let output = match self.0 {
             Fault::AsksSites => write_with_sites(list, buffer),
             Fault::LosesHighByte => write_lines(&without_high_bytes(list), buffer),
+            Fault::TakesSecondEdition if Edition::of(list) == Edition::Second => {
+                write_second(list, buffer)
+            }
             _ => self.answer(write_lines, list, buffer),
         };
         match (self.0, output.number) {
@@ -242,7 +248,7 @@ fn read_any_sizes(text: &[u8], buffer: &mut [u8]) -> Output {
     let usual = b"sites 3 commit 2 abort 2 willing 7\n";
     let output = read_lines(&[usual, &text[first.len()..]].concat(), buffer);
     if let (number::NONE, Some(sizes)) = (output.number, sizes_of(first)) {
-        buffer[..5].copy_from_slice(&sizes.header());
+        buffer[..5].copy_from_slice(&Edition::First.header(&sizes));
         return Output {
             place: text.len(),
             ..output
@@ -272,6 +278,17 @@ fn write_with_sites(list: &[u8], buffer: &mut [u8]) -> Output {
             Refusal { number, place }.into()
         }
         _ => write_lines(list, buffer),
+    }
+}
+
+/// Writes a list of the second edition as if it were one of the first.
+fn write_second(list: &[u8], buffer: &mut [u8]) -> Output {
+    match Header::of_list(list) {
+        Ok(header) => {
+            let first = Edition::First.header(&header.sizes);
+            write_lines(&[&first, &list[header.end..]].concat(), buffer)
+        }
+        Err(number) => Refusal::at_start(number).into(),
     }
 }
 

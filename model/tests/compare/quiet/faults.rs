@@ -6,7 +6,7 @@ use model::command::list_of;
 use model::lines::Refusal;
 use model::play::{play_command, play_list_by};
 use model::quiet::{self, Asked};
-use model::{number, Ask, Command, Output, Played, Replies, Side, Site, State, World};
+use model::{number, Ask, Command, Header, Output, Played, Replies, Side, Site, State, World};
 
 use crate::common::quiet::cost;
 
@@ -84,7 +84,7 @@ impl Rules for Faulty {
     }
 
     fn list(&self, store: &mut [u8], list: &[u8]) -> Played {
-        let played = play_list_by(store, list, |world, store, ask| {
+        let played = play_list_by(store, list, Header::of_list, |world, store, ask| {
             self.command(world, store, ask)
         });
         let more = usize::from(self.0 == Fault::CountsOneMore);

@@ -28,7 +28,12 @@ same-length c = search needs
 -- src/commands.rt:42:9
 returns : tie.Need-returns
 unfolding Acts timeoutCall worldOf
-returns c = λ sites e. simp (e, c .before .before .before .before .before .before .before .if1 .taken, lt-ltb _ _ (c .before .before .before .before .before .before .before .before .before .pre .1)) (rw (c .before .before .before .before .timeout .ensures) at (c .before .before .enter .ensures ((timeout (c .before .before .before .before .before .before .before .before .before .args .own) (c .before .before .before .before .before .before .before .before .before .args .head .n) (c .before .before .before .before .before .before .before .before .before .args .head .commit) (c .before .before .before .before .before .before .before .before .before .args .head .abort) (c .before .before .before .before .before .before .before .before .before .args .site)) .records) sites e))
+returns c =
+    let a = c .before .before .before .before .before .before .before .before .before .before .args in
+    λ sites e.
+    simp (e, c .before .before .before .before .before .before .before .before .if1 .taken, lt-ltb _ _ (c .before .before .before .before .before .before .before .before .before .before .pre .1))
+    (rw (c .before .before .before .before .timeout .ensures)
+    at (c .before .before .enter .ensures ((timeout (a .own) (a .head .n) (a .head .weights) (a .head .commit) (a .head .abort) (a .site)) .records) sites e))
 
 -- src/commands.rt:44:5
 refused-requires : tie.Need-refused-requires

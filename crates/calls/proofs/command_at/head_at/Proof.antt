@@ -8,6 +8,10 @@ use Rattle.calls.proofs.command_at.head_at.Lts as lts
 use Rattle.decode.proofs.long_at.Reads as long-at-reads
 use Rattle.decode.proofs.word_at.Reads as word-at-reads
 use Rattle.word.proofs.wide.Reads as wide-reads
+use Rattle.code_bytes.proofs.get_codes.Reads as get-codes-reads
+
+get-codes-requires : tie.Need-get-codes-requires
+get-codes-requires c κs = search needs
 
 shared-slice-read-wide : tie.Need-shared-slice-read-wide
 shared-slice-read-wide c = search needs
@@ -32,12 +36,13 @@ long-at-requires c κs = search needs
 
 returns : tie.Need-returns
 unfolding headOf worldAt
-returns c = rw (c .before .before .before .before .before .wide .ensures .0, c .before .before .before .before .word-at .ensures, c .before .before .before .word-at2 .ensures, c .before .before .word-at3 .ensures, c .before .word-at4 .ensures, c .long-at .ensures)
+returns c = rw (c .before .before .before .before .before .before .before .get-codes .ensures, c .before .before .before .before .before .wide .ensures .0, c .before .before .before .before .word-at .ensures, c .before .before .before .word-at2 .ensures, c .before .before .word-at3 .ensures, c .before .word-at4 .ensures, c .long-at .ensures)
 
 pub head-at-spec : {M : Type 1} → statement M
 head-at-spec =
     tie.close
     (tie.spec
+    get-codes-requires
     shared-slice-read-wide
     wide-requires
     word-at-requires

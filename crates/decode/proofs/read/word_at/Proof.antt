@@ -1,4 +1,4 @@
-use Rattle.layout.specs.Numbers.{wordAt}
+use Rattle.word.specs.Words.{wordAt}
 use borrow.Author.Needs.{needs}
 use Rattle.decode.proofs.read.word_at.Statement.{statement}
 use Rattle.decode.proofs.read.word_at.Tie as tie

@@ -21,14 +21,16 @@ use Rattle.play.proofs.actor.Reads as actor-reads
 use Rattle.play.proofs.head_of.Reads as head-of-reads
 
 abbrev Inv-loop : tie.InvT-loop
-Inv-loop store₀ list world₀ at₀ events₀ store world at events = Underway (playList store₀ list) world store list at events × (length store ≡ length store₀)
+Inv-loop first store₀ list world₀ at₀ events₀ store world at events = Underway (playList store₀ list) world store list at events × (length store ≡ length store₀)
 
 abbrev μ-loop : tie.MeasureT-loop
-μ-loop store₀ list world₀ at₀ events₀ store world at events = length list - at
+μ-loop first store₀ list world₀ at₀ events₀ store world at events = length list - at
 
 -- src/whole.rt:21:5
 loop-holds : tie.Need-loop-holds Inv-loop μ-loop
-loop-holds c = (rw (c .before .before .pre .0) (loop-begins (now (c .before .before .args .store)) (now (c .before .before .args .list)) (c .before .before .pre .1) (c .before .before .pre .2)), refl)
+loop-holds c =
+    let e = c .before .before .pre in
+    (rw (e .0, e .1) (loop-begins (now (c .before .before .args .store)) (now (c .before .before .args .list)) (e .2) (e .3)), refl)
 
 -- src/whole.rt:22:13
 read-command-requires : tie.Need-read-command-requires Inv-loop μ-loop
@@ -86,7 +88,7 @@ element-set-from-after c = let l = c .before .before .before .before .before .be
 
 -- src/whole.rt:38:9
 add-events : tie.Need-add-events Inv-loop μ-loop
-add-events c = let h = headed (now (c .before .before .before .before .before .before .before .before .before .before .before .before .before .before .before .args .list)) (c .before .before .before .before .before .before .before .before .before .before .before .before .before .before .before .pre .1) in omega (arith, c .before .before .before .before .before .before .before .before .before .before .before .before .loop .inv .0 .few, c .before .before .before .before .before .before .before .before .before .before .before .loop-test .taken, h)
+add-events c = let h = headed (now (c .before .before .before .before .before .before .before .before .before .before .before .before .before .before .before .args .list)) (c .before .before .before .before .before .before .before .before .before .before .before .before .before .before .before .pre .2) in omega (arith, c .before .before .before .before .before .before .before .before .before .before .before .before .loop .inv .0 .few, c .before .before .before .before .before .before .before .before .before .before .before .loop-test .taken, h)
 
 -- src/whole.rt:21:5
 loop-less : tie.Need-loop-less Inv-loop μ-loop

@@ -1,5 +1,5 @@
 use borrow.Author.Needs.{needs}
-use mathlib.Core.Path.{sym, _∙_}
+use mathlib.Core.Path.{ap, sym, _∙_}
 use borrow.Author.Tests.{lt-ltb, le-ltb, ne-eqb}
 use Rattle.header.specs.Headers.{headerWorld}
 use Rattle.list.specs.Play.{playList, refusedList, stopped}
@@ -9,6 +9,8 @@ use Rattle.list.proofs.whole.play_list.Reads as reads
 use Rattle.list.proofs.whole.play_list.Lts as lts
 use Rattle.header.proofs.header_number.Reads as header-number-reads
 use Rattle.header.proofs.read_header.Reads as read-header-reads
+use Rattle.header.proofs.read_weights.Reads as read-weights-reads
+use Rattle.header.proofs.header_length.Reads as header-length-reads
 use Rattle.list.proofs.whole.play_commands.Reads as play-commands-reads
 use Rattle.list.proofs.whole.refused_list.Reads as refused-list-reads
 use Rattle.world.proofs.World.fresh.Reads as fresh-reads
@@ -33,12 +35,23 @@ returns-2 c = (simp (le-ltb _ _ (c .before .before .before .if1 .left), ← (c .
 read-header-requires : tie.Need-read-header-requires
 read-header-requires c κs = search needs
 
+read-weights-requires : tie.Need-read-weights-requires
+read-weights-requires c κs = ap (λ h. h .n) (c .before .before .read-header .ensures)
+
 fresh-requires : tie.Need-fresh-requires
 fresh-requires c κs = search needs
 
+header-length-requires : tie.Need-header-length-requires
+header-length-requires c κs = search needs
+
 play-commands-requires : tie.Need-play-commands-requires
 unfolding headerWorld
-play-commands-requires c κs = (rw (c .before .before .before .before .read-header .ensures) at (c .before .fresh .ensures), (sym (c .before .before .before .before .before .before .header-number .ensures) ∙ c .before .before .before .before .before .if2 .left), c .before .before .before .before .before .before .before .if1 .left)
+play-commands-requires c κs = (
+  rw (c .before .before .before .before .before .before .read-header .ensures, c .before .before .before .read-weights .ensures) at (c .before .before .fresh .ensures),
+  c .before .header-length .ensures,
+  sym (c .before .before .before .before .before .before .before .before .header-number .ensures) ∙ c .before .before .before .before .before .before .before .if2 .left,
+  c .before .before .before .before .before .before .before .before .before .if1 .left,
+)
 
 same-length : tie.Need-same-length
 same-length c = search needs
@@ -56,7 +69,9 @@ play-list-spec =
     refused-list-requires-2
     returns-2
     read-header-requires
+    read-weights-requires
     fresh-requires
+    header-length-requires
     play-commands-requires
     same-length
     returns-3)

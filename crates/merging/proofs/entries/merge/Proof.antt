@@ -4,7 +4,8 @@ use native.Mathlib.Numerals.{add-one}
 use Prim.Native.Nat.{ℕ, _≤_, _-_}
 use mathlib.Core.Path.{_≡_, refl}
 use lib.ListN.{getD, set, replicate}
-use Rattle.choice.specs.laws.Stores.{storedTo, stored-on}
+use Rattle.choice.specs.Places.{storedTo}
+use Rattle.choice.specs.laws.Stores.{stored-on}
 use Rattle.merging.specs.laws.News.{gain}
 use Rattle.merging.specs.laws.Loop.{leaves-on, entryOf, marks, mark-small, left-is-merging}
 use Rattle.merging.proofs.entries.merge.Statement.{statement}

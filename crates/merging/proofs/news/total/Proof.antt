@@ -4,7 +4,7 @@ use native.Mathlib.Numerals.{add-one}
 use Prim.Native.Nat.{ℕ, _≤_, _-_}
 use mathlib.Core.Path.{_≡_}
 use lib.ListN.{getD}
-use Rattle.choice.specs.laws.Stores.{sumTo}
+use Rattle.choice.specs.Places.{sumTo}
 use Rattle.merging.proofs.news.total.Statement.{statement}
 use Rattle.merging.proofs.news.total.Tie as tie
 use Rattle.merging.proofs.news.total.Reads as reads

@@ -3,7 +3,7 @@ use native.Mathlib.Omega.{arith}
 use native.Mathlib.Numerals.{add-one}
 use Prim.Native.Nat.{ℕ, _≤_, _-_}
 use mathlib.Core.Path.{_≡_}
-use Rattle.choice.specs.laws.Stores.{storedTo}
+use Rattle.choice.specs.Places.{storedTo}
 use Rattle.validity.specs.laws.Limits.{limitsTo}
 use Rattle.validity.proofs.limits.valid_limits.Statement.{statement}
 use Rattle.validity.proofs.limits.valid_limits.Tie as tie

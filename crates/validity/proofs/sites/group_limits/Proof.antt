@@ -1,4 +1,4 @@
-use Rattle.choice.specs.laws.Stores.{storedTo}
+use Rattle.choice.specs.Places.{storedTo}
 use Rattle.validity.specs.laws.Limits.{limitsTo}
 use Rattle.validity.specs.laws.LimitLaws.{groupLimits}
 use borrow.Author.Needs.{needs}

@@ -15,13 +15,13 @@ valid-head-requires : tie.Need-valid-head-requires
 valid-head-requires c κs = search needs
 
 valid-sites-requires : tie.Need-valid-sites-requires
-valid-sites-requires c κs = sized _ _ _ _ (eqb-true _ 0 (both-first _ _ (sym (c .before .valid-head .ensures) ∙ c .if1 .taken))) .high
+valid-sites-requires c κs = sized _ _ _ _ _ (eqb-true _ 0 (both-first _ _ (sym (c .before .valid-head .ensures) ∙ c .if1 .taken))) .high
 
 returns : tie.Need-returns
-returns c = simp (validWorld-by (c .before .before .before .before .before .args .world), ← (c .before .before .valid-head .ensures), c .before .if1 .taken) (c .valid-sites .ensures)
+returns c = simp (validWorld-by (c .before .before .before .before .before .before .args .world), ← (c .before .before .valid-head .ensures), c .before .if1 .taken) (c .valid-sites .ensures)
 
 returns-2 : tie.Need-returns-2
-returns-2 c = simp (validWorld-by (c .before .before .before .before .args .world), ← (c .before .valid-head .ensures), c .if1 .left)
+returns-2 c = simp (validWorld-by (c .before .before .before .before .before .args .world), ← (c .before .valid-head .ensures), c .if1 .left)
 
 pub valid-world-spec : {M : Type 1} → statement M
 valid-world-spec = tie.close (tie.spec valid-head-requires valid-sites-requires returns returns-2)

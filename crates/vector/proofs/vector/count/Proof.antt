@@ -3,7 +3,7 @@ use native.Mathlib.Omega.{arith}
 use native.Mathlib.Numerals.{add-one}
 use Prim.Native.Nat.{ℕ, _≤_, _-_}
 use mathlib.Core.Path.{_≡_}
-use Rattle.vector.specs.Vector.{count, weigh, siteWeight}
+use Rattle.vector.specs.Vector.{count, weigh}
 use Rattle.vector.proofs.vector.count.Statement.{statement}
 use Rattle.vector.proofs.vector.count.Tie as tie
 use Rattle.vector.proofs.vector.count.Reads as reads
@@ -17,7 +17,7 @@ abbrev μ-loop : tie.MeasureT-loop
 μ-loop n code codes total₀ k₀ total k = n - k
 
 loop-holds : tie.Need-loop-holds Inv-loop μ-loop
-unfolding count weigh siteWeight
+unfolding count weigh
 loop-holds c = (omega arith, omega arith, search needs)
 
 array-read-entry-weight : tie.Need-array-read-entry-weight Inv-loop μ-loop
@@ -36,11 +36,11 @@ loop-less : tie.Need-loop-less Inv-loop μ-loop
 loop-less c = search needs
 
 loop-again : tie.Need-loop-again Inv-loop μ-loop
-unfolding count weigh siteWeight
+unfolding count weigh
 loop-again c = (omega arith, omega arith, rw add-one (cc))
 
 returns : tie.Need-returns Inv-loop μ-loop
-unfolding count weigh siteWeight
+unfolding count weigh
 returns c =
     let e : _≡_ {A = ℕ} (c .before .loop .k) (c .before .before .args .n) = omega arith in
     cc

@@ -22,7 +22,7 @@ unfolding freshWorld
 returns c = simp (← (c .before .before .sizes-number .ensures), ne-eqb _ _ (c .before .if1 .taken), ← (c .zero .ensures))
 
 fresh-sites-requires : tie.Need-fresh-sites-requires
-fresh-sites-requires c κs = sized _ _ _ _ (sym (c .before .sizes-number .ensures) ∙ c .if1 .left) .high
+fresh-sites-requires c κs = sized _ _ _ _ _ (sym (c .before .sizes-number .ensures) ∙ c .if1 .left) .high
 
 returns-2 : tie.Need-returns-2
 unfolding freshWorld
