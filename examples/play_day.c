@@ -4,41 +4,22 @@
  * Exit status: 0 the list was played to its end; 1 it was refused, and the last line printed says with which number and where; 2 it could not be
  * read, or its report could not be printed.
  */
+#include "list_file.h"
 #include "played.h"
 
 static const uint8_t day[] = {0x03, 0x02, 0x02, 0x07, 0x00, 0x01, 0x02, 0x00, 0x00, 0x01, 0x02, 0x01, 0x00,
                               0x00, 0x03, 0x00, 0x02, 0x02, 0x00, 0x02, 0x02, 0x03, 0x00, 0x00, 0x03, 0x00};
 
-/* One byte more than a list may have, so that a longer file is refused with 1. */
-static uint8_t file_bytes[QC_LIST_BYTES + 1];
-
-/* Reads a file's bytes and gives 0, or says why it cannot be read and gives -1. */
-static int read_list(const char *name, size_t *length)
-{
-    FILE *file = fopen(name, "rb");
-    int failed;
-
-    if (file == NULL) {
-        perror(name);
-        return -1;
-    }
-    *length = fread(file_bytes, 1, sizeof file_bytes, file);
-    failed = ferror(file);
-    if (failed)
-        perror(name);
-    fclose(file);
-    return failed ? -1 : 0;
-}
-
 int main(int argc, char **argv)
 {
+    static uint8_t file_bytes[FILE_ROOM];
     const uint8_t *list = day;
     size_t length = sizeof day;
     struct played played;
     int status;
 
     if (argc > 1) {
-        if (read_list(argv[1], &length) != 0)
+        if (read_list(argv[1], file_bytes, &length) != 0)
             return FAILED;
         list = file_bytes;
     }

@@ -6,10 +6,10 @@
  * not be written.
  */
 #include <errno.h>
-#include <stdio.h>
 #include <stdlib.h>
 
 #include "../include/quorum_read.h"
+#include "list_file.h"
 
 /* Exit statuses. */
 enum { WRITTEN = 0, REFUSED = 1, FAILED = 2 };
@@ -28,15 +28,6 @@ static int read_size(const char *text, size_t *size)
     return *end == '\0' && errno == 0;
 }
 
-/* The bytes, all of them, to standard output. */
-static int write_out(const uint8_t *bytes, size_t length)
-{
-    if (fwrite(bytes, 1, length, stdout) == length && fflush(stdout) == 0)
-        return WRITTEN;
-    perror("standard output");
-    return FAILED;
-}
-
 int main(int count, char **arguments)
 {
     uint8_t list[QC_QUIET_BYTES], result[QC_LINES_RESULT_BYTES];
@@ -52,5 +43,5 @@ int main(int count, char **arguments)
         fprintf(stderr, "refused %u: %s\n", (unsigned)refused, qc_answer_text(refused));
         return REFUSED;
     }
-    return write_out(list, (size_t)qc_lines_length(result));
+    return write_list(list, (size_t)qc_lines_length(result)) == 0 ? WRITTEN : FAILED;
 }

@@ -15,7 +15,7 @@
  *   it and hand it back.
  * - The answer is QC_ACCEPTED, or the number of the first check that failed. They are made in the order 16, 17, 1 to 3, 2 again for a second-edition
  *   header that is cut, 21, 4 to 15, 18; last of all, for a delivery, 17 again (see NEWS). The two calls between lists and lines have an order of
- *   their own (see LINES); qc_write_quiet has 17, 3, 4, 20.
+ *   their own (see LINES), and so has qc_convert (see EDITIONS); qc_write_quiet has 17, 3, 4, 20.
  *
  * A list is a header and then commands. There are two editions of the header; 130 as the first byte, which is no number of sites, begins the second:
  *     header      first edition, QC_HEADER_BYTES bytes: n, the number of sites; C, the commit quorum; A, the abort quorum; the willing sites as
@@ -92,9 +92,21 @@
  * other. Each line ends with a line feed, the last one too; there is no carriage return, no tab and no empty line. So a list has one text:
  * qc_write_lines and qc_read_lines undo each other, and a text that is spelt otherwise is refused. Commands are read here, and neither played nor held
  * to the header: a site or row that is not there may be written, and stops the list when it is played. Only lists of the first edition have lines: the
- * first byte is always taken as n, so 130 is 3.
+ * first byte is always taken as n, so 130 is 3. (Where all sites weigh 1, a list of the second edition can be brought back to the first: see EDITIONS.)
  * Both calls check 17 first, which here is a result of another length and nothing else. Then qc_write_lines checks 1 to 7, and qc_read_lines 19
  * over the whole text, 1, 3 to 5; last of all 20.
+ *
+ * EDITIONS. A club with an old player, from before the second edition, can play lists of the first edition only. qc_convert turns a list of either
+ * edition into the other: one that begins with 130 goes back to the first, any other goes forward to the second (its first byte is n, so 131 is 3).
+ * - The new header says the same n, C, A and willing sites. Going forward, each of the n sites gets a weight of 1.
+ * - The commands, all bytes after the header, are copied as they are. They are not played, and may be any bytes.
+ * - Going back is possible exactly where every site weighs 1, for a first-edition header cannot say anything else; otherwise the list is 22.
+ * - Both lists play alike, with the same world, rows, events and answer. Only places differ: the second edition's header is n + 3 bytes longer, so
+ *   there the end of the list, or the command that stopped it, is n + 3 bytes further on. (16 has place 0 for both.)
+ * - A list that is converted and converted again is the same list, byte for byte.
+ * - The converted list, too, has at most QC_LIST_BYTES bytes, so a first-edition list goes forward only if it has at most QC_LIST_BYTES - (n + 3).
+ * qc_convert checks 17 first, which again is a result of another length and nothing else; then the list's length and its header, 1 to 3, 2 again for a
+ * second-edition header that is cut, 21, 4, 5; then 22, and 1 where the converted list would be too long; last of all 20. Every refusal has place 0.
  */
 #ifndef QUORUM_H
 #define QUORUM_H
@@ -104,9 +116,9 @@
 
 /* The major number goes up when a program may have to change, the minor one when something is added. Version 3: a world has its news (layout 2),
  * and the report's first line ends with it. 3.1 adds lists as lines, with 19 and 20. 3.2 adds the list of a quiet day. Version 4: a world
- * has weights (layout 3, 672 bytes), and a list may be of the second edition, with 21. */
+ * has weights (layout 3, 672 bytes), and a list may be of the second edition, with 21. 4.1 adds the call from one edition to the other, with 22. */
 #define QC_VERSION_MAJOR 4
-#define QC_VERSION_MINOR 0
+#define QC_VERSION_MINOR 1
 #define QC_LAYOUT 3 /* of a world's bytes: its first byte */
 
 #define QC_SITES 16              /* site records of a world, its weights, and codes of a row */
@@ -126,11 +138,12 @@
 #define QC_RESULT_BYTES 8        /* a result of the calls that play or report: exactly */
 #define QC_LINES_RESULT_BYTES 16 /* a result of the calls that write a list or its lines: exactly */
 
-/* Every answer: its name, number and meaning. 2 is a list of under 5 bytes, whatever the first is, and, checked after 3, a second-edition header that
- * is cut. 4 is C or A over W - h, or C + A under W + 1 (see WEIGHTS). 17 is a world or result of another length than it must have, a world's bytes
- * outside the layout, a world whose values do not fit together (its quorums and weights among them: a weight is 0 exactly from n up) or whose news is
- * over 491,520, for the report also an event count, place or number out of its range, and, checked last, after 15, a delivery that would bring the news
- * over 491,520. 19 is met by qc_read_lines alone, 20 by it, qc_write_lines and qc_write_quiet, 21 by qc_play_list alone. */
+/* Every answer: its name, number and meaning. 1 is a list handed in, or, for qc_read_lines and qc_convert, one that would be written. 2 is a list
+ * of under 5 bytes, whatever the first is, and, checked after 3, a second-edition header that is cut. 4 is C or A over W - h, or C + A under W + 1 (see
+ * WEIGHTS). 17 is a world or result of another length than it must have, a world's bytes outside the layout, a world whose values do not fit together
+ * (its quorums and weights among them: a weight is 0 exactly from n up) or whose news is over 491,520, for the report also an event count, place or
+ * number out of its range, and, checked last, after 15, a delivery that would bring the news over 491,520. 19 is met by qc_read_lines alone, 20 by it,
+ * qc_write_lines, qc_write_quiet and qc_convert, 21 by qc_play_list and qc_convert, 22 by qc_convert alone. */
 #define QC_ANSWERS(answer)                                                                                      \
     answer(QC_ACCEPTED, 0, "accepted")                                                                          \
     answer(QC_LIST_LONG, 1, "the list is longer than 32,768 bytes")                                             \
@@ -154,7 +167,8 @@
     answer(QC_REPORT_SHORT, 18, "the report buffer is shorter than 1,024 bytes")                                \
     answer(QC_BAD_LINE, 19, "a line is not in the form, or a number in it is past its range")                   \
     answer(QC_ROOM_SHORT, 20, "the buffer is shorter than what is to be written to it")                         \
-    answer(QC_BAD_WEIGHT, 21, "a site's weight is 0")
+    answer(QC_BAD_WEIGHT, 21, "a site's weight is 0")                                                           \
+    answer(QC_UNEVEN_WEIGHT, 22, "a site's weight is not 1, so the first edition cannot have the list")
 
 #define QC_ENTRY(name, number, text) name = number,
 enum qc_answer { QC_ANSWERS(QC_ENTRY) QC_ANSWER_COUNT };
@@ -218,7 +232,7 @@ uint32_t qc_play_command(uint8_t *world, size_t world_length,
 
 /* Write the report of a world as text: a line of sizes and counts, a line for each site, and `end PLACE`, or `refused NUMBER at PLACE` where number
  * is not 0. Lines end with a newline byte; there is no zero byte at the end.
- * events, number, place: what qc_play_list gave; events and place at most 32,768, number at most 21.
+ * events, number, place: what qc_play_list gave; events and place at most 32,768, number at most 22.
  * buffer: may hold anything; gets the text from its beginning, and is left as it was beyond it.
  * result: bytes 0 to 7 get the text's length, 64 bits (at most 941).
  * Gives 0 if written; else 17, then 18, and no buffer is touched. After 16, 1 to 5 and 21 of qc_play_list the world is that of zeros, and here 17. */
@@ -261,6 +275,18 @@ uint32_t qc_read_lines(const uint8_t *text, size_t text_length,
 uint32_t qc_write_quiet(size_t n, size_t commit, size_t abort,
                         uint8_t *buffer, size_t buffer_length,
                         uint8_t *result, size_t result_length);
+
+/* Turn a list of either edition into the other (see EDITIONS above).
+ * list:   any bytes.
+ * buffer: may hold anything; gets the list of the other edition from its beginning, and is left as it was beyond it. QC_LIST_BYTES bytes are always
+ *         enough.
+ * result: QC_LINES_RESULT_BYTES bytes. 0 to 7 get the length of the list written, 64 bits; 8 to 15 the place, 64 bits: the length of the list handed
+ *         in. Where the call is refused both are 0.
+ * Gives 0 if written; else 17, and nothing is touched; or 1 to 5 and 21 for the list's length and header, 22 for a weight that is not 1, 1 where the
+ * list to be written would be longer than QC_LIST_BYTES, 20 for the buffer, and the buffer is untouched. */
+uint32_t qc_convert(const uint8_t *list, size_t list_length,
+                    uint8_t *buffer, size_t buffer_length,
+                    uint8_t *result, size_t result_length);
 
 #ifdef __cplusplus
 }

@@ -1,8 +1,8 @@
 /* Readers for what quorum.h hands over: worlds, rows and results, and an answer in words.
  *
  * They check nothing. A world is one that a call has left (QC_WORLD_BYTES bytes), a site is below QC_SITES, a row below the world's row count, and a
- * result is of an accepted call, or of qc_play_list, qc_write_lines, qc_read_lines or qc_write_quiet unless the answer is 17. docs/LAYOUT.md has the
- * bytes.
+ * result is of an accepted call, or of qc_play_list, qc_write_lines, qc_read_lines, qc_write_quiet or qc_convert unless the answer is 17.
+ * docs/LAYOUT.md has the bytes.
  */
 #ifndef QUORUM_READ_H
 #define QUORUM_READ_H
@@ -51,13 +51,14 @@ static inline uint64_t qc_result_length(const uint8_t *result)
     return qc_number64(result);
 }
 
-/* Of qc_write_lines, qc_read_lines and qc_write_quiet: the length of the text or list written; 0 where refused. */
+/* Of qc_write_lines, qc_read_lines, qc_write_quiet and qc_convert: the length of the text or list written; 0 where refused. */
 static inline uint64_t qc_lines_length(const uint8_t *result)
 {
     return qc_number64(result);
 }
 
-/* Of qc_write_lines and qc_read_lines: the length of the list or text handed in, or the place in it where it is refused. Of qc_write_quiet: 0. */
+/* Of qc_write_lines, qc_read_lines and qc_convert: the length of the list or text handed in, or the place in it where it is refused, for qc_convert
+ * always 0. Of qc_write_quiet: 0. */
 static inline uint64_t qc_lines_place(const uint8_t *result)
 {
     return qc_number64(result + 8);

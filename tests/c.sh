@@ -25,6 +25,14 @@ status() { # WANTED COMMAND ..: its exit status; what it prints is in $work/got
     [ "$got" -eq "$wanted" ] || fail "$* exits $got, not $wanted"
 }
 
+full() { # PROGRAM ARGUMENT ..: it exits 2 where the disk is full
+    local name=$1 got=0
+    shift
+    [ -w /dev/full ] || return 0
+    "target/$name" "$@" > /dev/full 2> "$work/errors" || got=$?
+    [ "$got" -eq 2 ] || fail "$name: a full disk is not noticed"
+}
+
 for header in include/*.h; do
     cc -std=c99 "${strict[@]}" -fsyntax-only -x c "$header"
     c++ "${strict[@]}" -fsyntax-only -x c++ "$header"
@@ -44,7 +52,7 @@ for list in '' examples/m3.bin; do
     cmp "$work/got" crates/player/stdout
 done
 refused=0
-for list in tests/vectors/*/*.bin; do
+for list in tests/vectors/{base,01-restart,02-news,06-weights}/*.bin; do
     wanted=0
     grep -q '^refused' "${list%.bin}.out" && wanted=1
     status "$wanted" target/play_day "$list"
@@ -72,11 +80,7 @@ status 1 target/quiet_list 16 8 8
 status 2 target/quiet_list 3 2
 status 2 target/quiet_list 3 2 two
 status 2 target/quiet_list 3 2 99999999999999999999
-if [ -w /dev/full ]; then
-    exited=0
-    target/quiet_list 3 2 2 > /dev/full 2> "$work/errors" || exited=$?
-    [ "$exited" -eq 2 ] || fail "quiet_list: a full disk is not noticed"
-fi
+full quiet_list 3 2 2
 echo "C: quiet_list writes days that commit everywhere; 0, 1 and 2 as its exit status"
 
 build weights examples/weights.c
@@ -122,6 +126,45 @@ status 2 target/weights 51 50 40 25 15 10 256
 status 2 target/weights 65536 50 40 25 15 10 10
 status 2 target/weights 9 9 1 1 1 1 1 1 1 1 1 1 1 1 1 1 1 1 1
 echo "C: weights commits with the sites that weigh enough, and tells why others are refused; 0, 1 and 2 as its exit status"
+
+build convert_list examples/convert_list.c
+written=0
+refused=0
+for list in tests/vectors/07-convert/*.bin; do
+    answer=${list%.bin}.out
+    if grep -aqx 'refused [0-9]* at 0' "$answer"; then
+        refused=$((refused + 1))
+        status 1 target/convert_list "$list"
+        [ ! -s "$work/got" ] || fail "convert_list: $list is refused, and something is written"
+        [ "$(cut -d : -f 1 "$work/errors") at 0" = "$(cat "$answer")" ] || fail "convert_list: $list is refused with another number"
+    else
+        written=$((written + 1))
+        status 0 target/convert_list "$list"
+        cmp "$work/got" "$answer"
+        status 0 target/convert_list < "$answer"
+        cmp "$work/got" "$list"
+    fi
+done
+if [ "$written" -lt 34 ] || [ "$refused" -lt 26 ]; then
+    fail "only $written lists are converted and $refused refused"
+fi
+why() { # TEXT LIST: convert_list refuses a list, and says why; its bytes as printf has them
+    printf '%b' "$2" > "$work/list"
+    status 1 target/convert_list "$work/list"
+    [ ! -s "$work/got" ] || fail "convert_list: '${2:0:99}' is refused, and something is written"
+    [ "$(cat "$work/errors")" = "$1" ] || fail "convert_list: of '${2:0:99}' it does not say '$1'"
+}
+three='\003\002\002\007\000'
+why "refused 22: a site's weight is not 1, so the first edition cannot have the list" '\202\004\003\000\003\000\017\000\001\001\002\001'
+why 'refused 3: the number of sites is not 3 to 16' '\203\002\002\007\000'
+why 'refused 2: the list is shorter than its header' ''
+why 'refused 1: in the other edition the list is longer than 32,768 bytes' "$three$(printf 'x%.0s' {6..32763})"
+why 'refused 1: the list is longer than 32,768 bytes' "$three$(printf 'x%.0s' {6..32769})"
+status 2 target/convert_list "$work/missing"
+status 2 target/convert_list "$work"
+status 2 target/convert_list examples/m3.bin examples/m3.bin
+full convert_list examples/m3.bin
+echo "C: convert_list turns $written vectors into the other edition and back, and tells why $refused are refused; 0, 1 and 2 as its exit status"
 
 build play_lines examples/play_lines.c
 status 0 target/play_lines examples/m3.txt

@@ -1,11 +1,12 @@
-/* Lists as lines: what the two calls and the readers of their result give for M3, both ways, and what these readers give for bytes. */
+/* Lists as lines, and lists in the other edition: what the calls and the readers of their result give for M3, both ways, and what these readers give
+ * for bytes. */
 #include <string.h>
 
 #include "readers.h"
 
 static uint8_t result[QC_LINES_RESULT_BYTES];
 
-/* What the last of the two calls gave. */
+/* What the last of these calls gave. */
 static void check_lines(const char *where, uint32_t answer, uint32_t wanted, unsigned length, unsigned place)
 {
     check(where, answer, wanted);
@@ -35,6 +36,24 @@ static void both_ways(void)
     CHECK(qc_read_lines(typed, 109, list, sizeof list, result, QC_RESULT_BYTES), QC_BAD_WORLD);
 }
 
+/* M3 in the second edition, and back; its header is six bytes longer. A list with a weight of 2 stays. */
+static void both_editions(void)
+{
+    static const uint8_t wanted[] = {130, 3, 2, 0, 2, 0, 7, 0, 1, 1, 1, 1, 2, 0, 0, 1, 2, 1, 0, 0, 3, 0, 2, 2, 0, 2, 2, 3, 0, 0, 3, 0};
+    static const uint8_t heavy[] = {130, 4, 3, 0, 3, 0, 15, 0, 1, 1, 2, 1};
+    static uint8_t second[QC_LIST_BYTES], list[QC_LIST_BYTES];
+    CHECK_LINES(qc_convert(m3, sizeof m3, second, sizeof second, result, sizeof result), QC_ACCEPTED, 32, 26);
+    CHECK((uint64_t)(memcmp(second, wanted, sizeof wanted) == 0), 1);
+    CHECK_LINES(qc_convert(second, 32, list, sizeof list, result, sizeof result), QC_ACCEPTED, 26, 32);
+    CHECK((uint64_t)(memcmp(list, m3, sizeof m3) == 0), 1);
+    CHECK_LINES(qc_convert(m3, 4, second, sizeof second, result, sizeof result), QC_LIST_SHORT, 0, 0);
+    CHECK_LINES(qc_convert(wanted, 10, list, sizeof list, result, sizeof result), QC_LIST_SHORT, 0, 0);
+    CHECK_LINES(qc_convert(heavy, sizeof heavy, list, sizeof list, result, sizeof result), QC_UNEVEN_WEIGHT, 0, 0);
+    CHECK_LINES(qc_convert(m3, sizeof m3, second, 31, result, sizeof result), QC_ROOM_SHORT, 0, 0);
+    CHECK_LINES(qc_convert(wanted, sizeof wanted, list, 25, result, sizeof result), QC_ROOM_SHORT, 0, 0);
+    CHECK(qc_convert(m3, sizeof m3, second, sizeof second, result, QC_RESULT_BYTES), QC_BAD_WORLD);
+}
+
 static void numbers(void)
 {
     static const uint8_t bytes[] = {1, 2, 3, 4, 5, 6, 7, 0xf8, 9, 10, 11, 12, 13, 14, 15, 0xf0};
@@ -46,5 +65,6 @@ static void numbers(void)
 void line_readers(void)
 {
     both_ways();
+    both_editions();
     numbers();
 }

@@ -1,5 +1,5 @@
 /* Plays lists through the library and holds what the header's readers say to what documents 01 and 02 give, worked out by hand.
- * Exits 0 if all is as it should be, 1 after the first difference. Also checked as C++. Lists as lines are in line_readers.c.
+ * Exits 0 if all is as it should be, 1 after the first difference. Also checked as C++. Lists as lines, and in the other edition, are in line_readers.c.
  */
 #include <stdio.h>
 #include <stdlib.h>
@@ -397,7 +397,7 @@ static void texts(void)
 {
     const char *none = qc_answer_text(QC_ANSWER_COUNT);
     uint32_t one, other;
-    CHECK(QC_ANSWER_COUNT, 22);
+    CHECK(QC_ANSWER_COUNT, 23);
     CHECK_TEXT(none, "no answer of this library");
     CHECK_TEXT(qc_answer_text(UINT32_MAX), none);
     CHECK_TEXT(qc_answer_text(QC_ACCEPTED), "accepted");
@@ -405,9 +405,10 @@ static void texts(void)
     CHECK_TEXT(qc_answer_text(19), "a line is not in the form, or a number in it is past its range");
     CHECK_TEXT(qc_answer_text(20), "the buffer is shorter than what is to be written to it");
     CHECK_TEXT(qc_answer_text(21), "a site's weight is 0");
-    for (one = 0; one < 22; one++) {
+    CHECK_TEXT(qc_answer_text(QC_UNEVEN_WEIGHT), "a site's weight is not 1, so the first edition cannot have the list");
+    for (one = 0; one < 23; one++) {
         CHECK((uint64_t)(strlen(qc_answer_text(one)) > 0), 1);
-        for (other = one + 1; other <= 22; other++)
+        for (other = one + 1; other <= 23; other++)
             CHECK((uint64_t)(strcmp(qc_answer_text(one), qc_answer_text(other)) != 0), 1);
     }
 }

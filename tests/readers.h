@@ -14,7 +14,7 @@ void check(const char *where, uint64_t got, uint64_t wanted);
 
 #define CHECK(got, wanted) check(HERE, (got), (wanted))
 
-/* Those of lists as lines. */
+/* Those of lists as lines, and of lists in the other edition. */
 void line_readers(void);
 
 #endif

@@ -71,6 +71,15 @@ extern "C" {
         result: *mut u8,
         result_len: usize,
     ) -> u32;
+
+    fn qc_convert(
+        list: *const u8,
+        list_len: usize,
+        buffer: *mut u8,
+        buffer_len: usize,
+        result: *mut u8,
+        result_len: usize,
+    ) -> u32;
 }
 
 /// The proved library. Its functions ask nothing of their arguments.
@@ -164,6 +173,20 @@ impl Calls for Library {
                 n,
                 commit,
                 abort,
+                buffer.as_mut_ptr(),
+                buffer.len(),
+                result.as_mut_ptr(),
+                result.len(),
+            )
+        }
+    }
+
+    fn convert(&self, list: &[u8], buffer: &mut [u8], result: &mut [u8]) -> u32 {
+        // SAFETY: as above.
+        unsafe {
+            qc_convert(
+                list.as_ptr(),
+                list.len(),
                 buffer.as_mut_ptr(),
                 buffer.len(),
                 result.as_mut_ptr(),

@@ -1,7 +1,8 @@
-//! The six calls offered to C, on bytes, as the model answers them:
+//! The seven calls offered to C, on bytes, as the model answers them:
 //! docs/LAYOUT.md.
 
 use crate::command::Ask;
+use crate::convert::convert;
 use crate::header::Header;
 use crate::layout::{decode, encode, update, WORLD_BYTES};
 use crate::lines::{read_lines, write_lines, Output};
@@ -13,11 +14,11 @@ use crate::world::World;
 
 /// Bytes of the result buffer of a call that plays or reports.
 pub const RESULT_BYTES: usize = 8;
-/// Bytes of the result buffer of a call that writes or reads lines, or writes a
-/// quiet day's list: the output's length, and the place.
+/// Bytes of the result buffer of a call that writes or reads lines, writes a quiet
+/// day's list, or converts a list: the output's length, and the place.
 pub const LINES_RESULT_BYTES: usize = 16;
 
-/// One side of a comparison: anything that answers the six calls.
+/// One side of a comparison: anything that answers the seven calls.
 pub trait Calls {
     /// A whole list; the world and the result are written where they have their
     /// lengths.
@@ -38,6 +39,9 @@ pub trait Calls {
 
     /// The list of the quiet day of n sites with C and A, likewise.
     fn write_quiet(&self, asked: Asked, buffer: &mut [u8], result: &mut [u8]) -> u32;
+
+    /// A list in the other edition, likewise.
+    fn convert(&self, list: &[u8], buffer: &mut [u8], result: &mut [u8]) -> u32;
 }
 
 /// The rules behind the calls: what a player does with worlds. As they stand
@@ -86,6 +90,11 @@ pub trait Rules {
     fn quiet(&self, asked: Asked, buffer: &mut [u8]) -> Output {
         write_quiet(asked, buffer)
     }
+
+    /// A list in the other edition.
+    fn carried(&self, list: &[u8], buffer: &mut [u8]) -> Output {
+        convert(list, buffer)
+    }
 }
 
 /// The model itself.
@@ -131,6 +140,10 @@ impl<R: Rules> Calls for R {
 
     fn write_quiet(&self, asked: Asked, buffer: &mut [u8], result: &mut [u8]) -> u32 {
         answer_output(result, || self.quiet(asked, buffer))
+    }
+
+    fn convert(&self, list: &[u8], buffer: &mut [u8], result: &mut [u8]) -> u32 {
+        answer_output(result, || self.carried(list, buffer))
     }
 }
 

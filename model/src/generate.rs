@@ -1,6 +1,7 @@
 //! Lists and calls for comparing players, the same ones for the same seed.
 
 mod call;
+mod editions;
 mod guide;
 mod header;
 mod lines;
@@ -71,6 +72,10 @@ impl Generator {
     /// A list whose commands are accepted, but for the last one at times.
     pub fn next_guided(&mut self) -> Vec<u8> {
         let beginning = beginning(&mut self.rng);
+        self.guided(beginning)
+    }
+
+    fn guided(&mut self, beginning: Beginning) -> Vec<u8> {
         let mut guide = Guide::new(beginning, self.length());
         if self.least >= LONG && self.rng.chance(50) {
             guide.begin_with_quarrel(&mut self.rng);

@@ -28,11 +28,19 @@ pub struct Header {
 }
 
 impl Edition {
-    /// The edition of a list that is to be played, by its first byte.
+    /// The edition of a list that is to be played or converted, by its first byte.
     pub fn of(list: &[u8]) -> Edition {
         match list.first() {
             Some(&SECOND) => Edition::Second,
             _ => Edition::First,
+        }
+    }
+
+    /// The edition that a list is converted to.
+    pub fn other(self) -> Edition {
+        match self {
+            Edition::First => Edition::Second,
+            Edition::Second => Edition::First,
         }
     }
 

@@ -1,15 +1,17 @@
 //! An independent model of the quorum commitment player for inter-club sheets.
 //!
-//! The rules, the checks, the report, the lines and the quiet day's list are written
-//! from documents 01 and 02, with mutable state and plain Rust, so that another player
-//! can be compared with them. Only layout.rs and calls.rs follow docs/LAYOUT.md: they
-//! say how a world and the answers cross to C. The call that writes the quiet day's
-//! list, with the order of its refusals, is in no paper but in docs/DECISIONS.md, 69.
+//! The rules, the checks, the report, the lines, the quiet day's list and the converter
+//! are written from documents 01 and 02, with mutable state and plain Rust, so that
+//! another player can be compared with them. Only layout.rs and calls.rs follow
+//! docs/LAYOUT.md: they say how a world and the answers cross to C. The call that writes
+//! the quiet day's list, with the order of its refusals, is in no paper but in
+//! docs/DECISIONS.md, 69.
 
 #![forbid(unsafe_code)]
 
 pub mod calls;
 pub mod command;
+pub mod convert;
 pub mod flaw;
 pub mod generate;
 pub mod header;
@@ -33,6 +35,7 @@ pub mod vector;
 pub mod world;
 
 pub use command::{Ask, Command};
+pub use convert::convert;
 pub use header::{Edition, Header};
 pub use lines::{read_lines, write_lines, Output};
 pub use play::{one_command, play_list, Played};

@@ -2,7 +2,7 @@
 
 /// No stop.
 pub const NONE: u8 = 0;
-/// List over 32,768 bytes.
+/// List over 32,768 bytes, as it is or once it is converted.
 pub const LIST_LONG: u8 = 1;
 /// List under 5 bytes, or a header of the second edition that is cut.
 pub const LIST_SHORT: u8 = 2;
@@ -45,8 +45,10 @@ pub const LINE: u8 = 19;
 pub const ROOM: u8 = 20;
 /// A site that weighs nothing.
 pub const WEIGHT: u8 = 21;
+/// A site that does not weigh 1, in a list that is to go back to the first edition.
+pub const UNEVEN: u8 = 22;
 /// The highest number there is.
-pub const LAST: u8 = 21;
+pub const LAST: u8 = 22;
 
 /// Is this a number of a list's length or header?
 pub fn is_of_header(number: u8) -> bool {

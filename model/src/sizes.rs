@@ -57,6 +57,14 @@ impl Sizes {
         Ok(())
     }
 
+    /// Check 22, which the first edition needs: each site weighs 1.
+    pub fn check_even(&self) -> Result<(), u8> {
+        if self.members().iter().any(|&weight| weight != 1) {
+            return Err(number::UNEVEN);
+        }
+        Ok(())
+    }
+
     /// Check 4: each quorum can be had without the heaviest site, and they meet.
     pub fn check_quorums(&self) -> Result<(), u8> {
         let (all, commit, abort) = (self.weight(), self.commit_quorum, self.abort_quorum);

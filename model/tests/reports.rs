@@ -33,7 +33,7 @@ fn a_fresh_world_in_words() {
 #[test]
 fn every_stop_number_gets_all_lines() {
     let world = World::fresh(three_sites(0));
-    for number in 1..=21 {
+    for number in 1..=22 {
         let mut buffer = BUFFER;
         let size = report(&world, numbers(3, number, 12), &mut buffer).unwrap();
         let text = std::str::from_utf8(&buffer[..size]).unwrap();
@@ -48,7 +48,7 @@ fn numbers_out_of_range() {
     for numbers in [
         numbers(32_769, 0, 5),
         numbers(usize::MAX, 0, 5),
-        numbers(0, 22, 5),
+        numbers(0, 23, 5),
         numbers(0, 256, 5),
         numbers(0, u32::MAX, 5),
         numbers(0, 0, 32_769),
@@ -108,9 +108,9 @@ fn a_bad_world_comes_before_a_short_buffer() {
 #[test]
 fn the_longest_report_fits() {
     let mut buffer = [b'#'; 1024];
-    let size = report(&widest(), numbers(32_768, 21, 32_768), &mut buffer).unwrap();
+    let size = report(&widest(), numbers(32_768, 22, 32_768), &mut buffer).unwrap();
     assert_eq!(size, 941);
-    assert!(buffer[..size].ends_with(b"\nrefused 21 at 32768\n"));
+    assert!(buffer[..size].ends_with(b"\nrefused 22 at 32768\n"));
     let text = std::str::from_utf8(&buffer[..size]).unwrap();
     let first = "sites 16 commit 3825 abort 3825 events 32768 rows 1024 news 491520";
     assert_eq!(text.lines().next(), Some(first));

@@ -1,20 +1,24 @@
 //! The vectors: lists, and what the player must print for each; lists and
-//! texts, and what must come of writing or reading each as lines.
+//! texts, and what must come of writing or reading each as lines; lists, and what must
+//! come of converting each.
 
 use std::fs;
 use std::io::Write;
 use std::path::{Path, PathBuf};
 use std::process::{Command, Stdio};
 
-use model::{read_lines, write_lines, Output};
+use model::{convert, read_lines, write_lines, Output};
 
 /// The repository's vectors, a folder for the base and for each request.
 const FOLDER: &str = concat!(env!("CARGO_MANIFEST_DIR"), "/../tests/vectors");
+/// The folder of lists that are converted, and not played.
+const CONVERTED: &str = "07-convert";
 
 /// How many of each sort there are at the least.
 const LEAST: usize = 161;
 const LEAST_WRITTEN: usize = 60;
 const LEAST_READ: usize = 80;
+const LEAST_CONVERTED: usize = 60;
 
 /// A path, an input, and what must come of it.
 type Vector = (String, Vec<u8>, Vec<u8>);
@@ -40,9 +44,10 @@ fn inputs(paths: impl Iterator<Item = PathBuf>, ending: &str, least: usize) -> V
     all
 }
 
-/// Every list that is played: those that stand in a request's folder itself.
+/// Every list that is played: those that stand in a request's folder itself, but for
+/// those that are converted.
 fn vectors() -> Vec<Vector> {
-    let folders = entries(Path::new(FOLDER));
+    let folders = entries(Path::new(FOLDER)).filter(|folder| !folder.ends_with(CONVERTED));
     inputs(folders.flat_map(|folder| entries(&folder)), "bin", LEAST)
 }
 
@@ -52,8 +57,14 @@ fn line_vectors(call: &str, ending: &str, least: usize) -> Vec<Vector> {
     inputs(entries(&folder), ending, least)
 }
 
-/// The output of a call on lines, or the line that says its refusal. The buffer
-/// has the room that is wanted and no more.
+/// The lists that are converted.
+fn converted_vectors() -> Vec<Vector> {
+    let folder = Path::new(FOLDER).join(CONVERTED);
+    inputs(entries(&folder), "bin", LEAST_CONVERTED)
+}
+
+/// The output of a call on lines or of the converter, or the line that says its
+/// refusal. The buffer has the room that is wanted and no more.
 fn output_or_refusal(
     call: impl Fn(&[u8], &mut [u8]) -> Output,
     input: &[u8],
@@ -115,6 +126,21 @@ fn the_model_reads_every_vector() {
             assert!(output_or_refusal(write_lines, &list, text.len()) == text);
         }
     }
+}
+
+#[test]
+fn the_model_converts_every_vector() {
+    let mut back = 0;
+    for (name, list, wanted) in converted_vectors() {
+        let made = output_or_refusal(convert, &list, wanted.len());
+        assert!(made == wanted, "vector {name}");
+        if !made.starts_with(b"refused") {
+            assert!(output_or_refusal(convert, &made, list.len()) == list);
+            back += 1;
+        }
+    }
+    println!("{back} vectors also back");
+    assert!(back >= LEAST_CONVERTED / 2);
 }
 
 #[test]

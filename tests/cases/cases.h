@@ -1,7 +1,7 @@
-/* Cases just inside and just outside of every number, of merging and of weights, as tables: what the tables share.
+/* Cases just inside and just outside of every number, of merging, of weights and of editions, as tables: what the tables share.
  *
  * What a case must give is worked out by hand from documents 01 and 02, and it is played through the C functions. A refused command or report must
- * leave every buffer as it was, and refused lines their buffer. A difference is told with the case's name, and ends the program.
+ * leave every buffer as it was, and refused lines and conversions their buffer. A difference is told with the case's name, and ends the program.
  */
 #ifndef CASES_H
 #define CASES_H
@@ -24,6 +24,9 @@ void weight_cases(void);
 void edition_cases(void);
 void weighing_cases(void);
 void timeout_cases(void);
+void convert_cases(void);
+void bad_convert_cases(void);
+void converted_cases(void);
 
 /* The case that is played from here on; and what was got of it. */
 void begin(const char *name);

@@ -117,7 +117,6 @@ static void expect_lines(lines_call *call, size_t room, const struct line_case *
     expect_left(got, given->answer, given->place, output, output_length);
 }
 
-/* Refused alike with much room and with none, since 20 comes last. */
 void refuse(lines_call *call, const struct line_case *one)
 {
     begin(one->name);
@@ -132,8 +131,7 @@ void refuse_all(lines_call *call, const struct line_case *table, size_t count)
         refuse(call, &table[i]);
 }
 
-/* Accepted with much room and with just enough; 20 with a byte less and with none. */
-static void accept(lines_call *call, const char *name, const uint8_t *input, size_t length, const uint8_t *output, size_t output_length)
+void accept(lines_call *call, const char *name, const uint8_t *input, size_t length, const uint8_t *output, size_t output_length)
 {
     const struct line_case accepted = {name, input, length, QC_ACCEPTED, length};
     const struct line_case refused = {name, input, length, QC_ROOM_SHORT, 0};
@@ -150,8 +148,7 @@ void both_ways(const struct pair *one)
     accept(qc_read_lines, one->name, one->text, one->text_length, one->list, one->list_length);
 }
 
-/* A result of another length is 17 before everything else, whatever is handed in, and nothing is touched. */
-static void results(lines_call *call, const uint8_t *input, size_t length)
+void refuse_results(lines_call *call, const uint8_t *input, size_t length)
 {
     size_t i;
     for (i = 0; i < BAD_RESULTS; i++) {
@@ -171,8 +168,8 @@ void line_cases(void)
     for (i = 0; i < COUNT(pairs); i++)
         both_ways(&pairs[i]);
     refuse_all(qc_write_lines, lists, COUNT(lists));
-    results(qc_write_lines, header, sizeof header);
-    results(qc_write_lines, none, 0);
-    results(qc_read_lines, TEXT(FIRST));
-    results(qc_read_lines, none, 0);
+    refuse_results(qc_write_lines, header, sizeof header);
+    refuse_results(qc_write_lines, none, 0);
+    refuse_results(qc_read_lines, TEXT(FIRST));
+    refuse_results(qc_read_lines, none, 0);
 }

@@ -1,4 +1,4 @@
-/* What the cases of lists as lines share, and those of a quiet day. */
+/* What the cases of lists as lines share, and those of a quiet day and of a list turned into the other edition. */
 #ifndef LINES_H
 #define LINES_H
 
@@ -32,7 +32,7 @@ struct bad_result {
 #define BAD_RESULTS 4
 extern const struct bad_result bad_results[BAD_RESULTS];
 
-/* qc_write_lines or qc_read_lines. */
+/* qc_write_lines, qc_read_lines or qc_convert. */
 typedef uint32_t lines_call(const uint8_t *, size_t, uint8_t *, size_t, uint8_t *, size_t);
 
 /* A list and its text: each call must make one of the other. */
@@ -55,7 +55,14 @@ struct line_case {
     uint64_t place;
 };
 
+/* Accepted with much room and with just enough; 20 with a byte less and with none. */
+void accept(lines_call *call, const char *name, const uint8_t *input, size_t length, const uint8_t *output, size_t output_length);
+
+/* Refused alike with much room and with none, since 20 comes last. */
 void refuse(lines_call *call, const struct line_case *one);
 void refuse_all(lines_call *call, const struct line_case *table, size_t count);
+
+/* A result of another length is 17 before everything else, whatever is handed in, and nothing is touched. */
+void refuse_results(lines_call *call, const uint8_t *input, size_t length);
 
 #endif

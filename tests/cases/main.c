@@ -78,6 +78,9 @@ int main(void)
     edition_cases();
     weighing_cases();
     timeout_cases();
-    printf("cases: %u cases, around the numbers 1 to 21, of merging and of weights\n", cases);
+    convert_cases();
+    bad_convert_cases();
+    converted_cases();
+    printf("cases: %u cases, around the numbers 1 to 22, of merging, of weights and of editions\n", cases);
     return 0;
 }

@@ -26,7 +26,8 @@ static const struct report_case reports[] = {
     {"17 stop number 19 passes", FRESH, 0, 19, 5, 1024, 0},
     {"17 stop number 20 passes", FRESH, 0, 20, 5, 1024, 0},
     {"17 stop number 21 passes", FRESH, 0, 21, 5, 1024, 0},
-    {"17 stop number 22", FRESH, 0, 22, 5, 1024, 17},
+    {"17 stop number 22 passes", FRESH, 0, 22, 5, 1024, 0},
+    {"17 stop number 23", FRESH, 0, 23, 5, 1024, 17},
     {"17 stop number 255", FRESH, 0, 255, 5, 1024, 17},
     {"17 stop number 256", FRESH, 0, 256, 5, 1024, 17},
     {"18 a buffer of 1,023 bytes", FRESH, 0, 0, 5, 1023, 18},
@@ -85,7 +86,7 @@ static void report_weights(void)
 /* The longest report: sixteen sites, all numbers of the most digits, every site down and in the commit group. */
 static const struct report_case longest = {
     "the longest report",
-    {SITES(16), COMMIT_QUORUM(3825), ABORT_QUORUM(3825), ROWS(1024), NEWS(491520), WEIGHTS16(255)}, 32768, 21, 32768, 1024, 0,
+    {SITES(16), COMMIT_QUORUM(3825), ABORT_QUORUM(3825), ROWS(1024), NEWS(491520), WEIGHTS16(255)}, 32768, 22, 32768, 1024, 0,
 };
 
 /* The site as a line of its report, and as its bytes. */
@@ -110,7 +111,7 @@ static void report_longest(void)
     line += sprintf(line, "sites 16 commit 3825 abort 3825 events 32768 rows 1024 news 491520\n");
     for (site = 0; site < QC_SITES; site++)
         line = put_longest_site(line, world, site);
-    sprintf(line, "refused 21 at 32768\n");
+    sprintf(line, "refused 22 at 32768\n");
     expect_text(world, &longest, text);
     expect("its length", strlen(text), 941);
 }

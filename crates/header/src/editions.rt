@@ -41,7 +41,8 @@ fn second_header(list: &[u8]) -> Header
     }
 }
 
-fn is_second(list: &[u8]) -> bool
+// A list of the second edition.
+pub fn is_second(list: &[u8]) -> bool
     ensures { λ r. ⌜ r ≡ isSecond (now (list .entry)) ⌝ }
 {
     byte_at(list, 0) == 130

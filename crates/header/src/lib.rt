@@ -5,6 +5,7 @@ mod number;
 
 pub use editions::first_header;
 pub use editions::header_length;
+pub use editions::is_second;
 pub use editions::read_header;
 pub use editions::read_weights;
 pub use number::first_number;

@@ -4,6 +4,7 @@ ghost use lib.Dec.{eqb};
 ghost use lib.ListN.{length};
 ghost use Rattle.layout.specs.Numbers.{putNumber};
 ghost use Rattle.spelling.specs.WriteRead.{writeLines, readLines};
+ghost use Rattle.conversion.specs.Conversion.{convert};
 ghost use Rattle.quiet.specs.QuietList.{writeQuiet};
 ghost use Rattle.line_calls.specs.LineCalls.{linesResultBytes, linesCall};
 use site::AbortQuorum;
@@ -54,6 +55,19 @@ pub fn read_call(text: &[u8], buffer: &mut [u8], result: &mut [u8]) -> u32
         return 17;
     }
     let spelled = read_lines::read_lines(text, buffer);
+    put_answer(result, spelled)
+}
+
+// A list in the other edition.
+pub fn convert_call(list: &[u8], buffer: &mut [u8], result: &mut [u8]) -> u32
+    ensures { λ r. ⌜ r ≡ linesCall (convert (now (list .entry))) (now (buffer .entry)) (now (result .entry)) .number ⌝ }
+    ensures { λ _. ⌜ now (buffer .exit) ≡ linesCall (convert (now (list .entry))) (now (buffer .entry)) (now (result .entry)) .buffer ⌝ }
+    ensures { λ _. ⌜ now (result .exit) ≡ linesCall (convert (now (list .entry))) (now (buffer .entry)) (now (result .entry)) .result ⌝ }
+{
+    if !is_result(result) {
+        return 17;
+    }
+    let spelled = conversion::convert(list, buffer);
     put_answer(result, spelled)
 }
 

@@ -1,6 +1,7 @@
 // The calls offered to C, on byte slices and numbers. docs/LAYOUT.md has the bytes; include/quorum.h says how to call.
 ghost use mathlib.Core.Path.{_≡_};
 ghost use Rattle.spelling.specs.WriteRead.{writeLines, readLines};
+ghost use Rattle.conversion.specs.Conversion.{convert};
 ghost use Rattle.quiet.specs.QuietList.{writeQuiet};
 ghost use Rattle.line_calls.specs.LineCalls.{linesCall};
 ghost use Rattle.calls.specs.Calls.{listCall, commandCall, reportCall};
@@ -87,6 +88,16 @@ pub extern "C" fn qc_read_lines(text: &[u8], buffer: &mut [u8], result: &mut [u8
     ensures { λ _. ⌜ now (result .exit) ≡ linesCall (readLines (now (text .entry))) (now (buffer .entry)) (now (result .entry)) .result ⌝ }
 {
     line_calls::read_call(text, buffer, result)
+}
+
+// A list in the other edition.
+#[no_mangle]
+pub extern "C" fn qc_convert(list: &[u8], buffer: &mut [u8], result: &mut [u8]) -> u32
+    ensures { λ r. ⌜ r ≡ linesCall (convert (now (list .entry))) (now (buffer .entry)) (now (result .entry)) .number ⌝ }
+    ensures { λ _. ⌜ now (buffer .exit) ≡ linesCall (convert (now (list .entry))) (now (buffer .entry)) (now (result .entry)) .buffer ⌝ }
+    ensures { λ _. ⌜ now (result .exit) ≡ linesCall (convert (now (list .entry))) (now (buffer .entry)) (now (result .entry)) .result ⌝ }
+{
+    line_calls::convert_call(list, buffer, result)
 }
 
 // The list of a quiet day.

@@ -1,4 +1,4 @@
--- What the programs print of a call on lines: its output, or the refusal's line alone.
+-- What the programs print of a call that writes a list or its lines: its output, or the refusal's line alone.
 use Prim.Native.Nat.{ℕ}
 use mathlib.Core.List.{List}
 use lib.Dec.{eqb}

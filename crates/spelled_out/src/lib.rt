@@ -1,4 +1,4 @@
-// What the programs print of a call on lines.
+// What the programs print of a call that writes a list or its lines.
 ghost use mathlib.Core.Path.{_≡_};
 ghost use Prim.Native.Nat.{_<_, _≤_};
 ghost use lib.ListN.{length};

@@ -12,7 +12,7 @@ use header::Header;
 use text::put_byte;
 
 // Sixteen bits, low byte first.
-fn put_pair(buffer: &mut [u8], at: usize, x: usize) -> usize
+pub fn put_pair(buffer: &mut [u8], at: usize, x: usize) -> usize
     requires { ⌜ (x < 65536) × (at + 2 ≤ length (now buffer)) ⌝ }
     ensures { λ r. ⌜ Written (now (buffer .entry)) at (x % 256 ∷ x / 256 ∷ []) (now (buffer .exit)) r ⌝ }
     ensures { λ r. ⌜ r ≤ at + 2 ⌝ }

@@ -6,6 +6,7 @@ ghost use mathlib.Core.Path.{_≡_};
 pub use bytes::command_length;
 pub use bytes::put_command;
 pub use bytes::put_header;
+pub use bytes::put_pair;
 use header::Header;
 pub use line::header_line_length;
 pub use line::line_length;

@@ -10,6 +10,8 @@
 //! - Lines: lists written as lines and texts read back, short ones and the longest
 //!   there is, each in one call on both sides; how many bytes of text a second, and
 //!   how long one text takes.
+//! - Converting: a quiet day, and duels as long as can be, from the first edition to the
+//!   second and back, likewise; how many bytes of the list that is made.
 //!
 //! Run it for release: cargo run --release --bin bench
 
@@ -23,6 +25,7 @@ use std::time::{Duration, Instant};
 
 use model::calls::{Calls, Model, LINES_RESULT_BYTES, RESULT_BYTES};
 use model::command::list_of;
+use model::convert::converted;
 use model::generate::{duel, weighted_duel, Rng};
 use model::layout::{encode, WORLD_BYTES};
 use model::lines::list_spelled;
@@ -52,7 +55,7 @@ struct Buffers {
     world: Vec<u8>,
     result: Vec<u8>,
     lines: Vec<u8>,
-    /// The result of a call on lines.
+    /// The result of a call on lines or of the converter.
     output: Vec<u8>,
 }
 
@@ -75,9 +78,11 @@ fn main() {
     println!("best of {TURNS} turns of at least {} ms", TURN.as_millis());
     let by_command = least(&days(), "one command: ", run_commands);
     let lines = run_lines();
+    let converted = least(&editions(), "converting: ", run_converted);
     let whole = least(&[days(), growth()].concat(), "", run_list);
     println!("one-command ratio {by_command:.2}");
     println!("lines ratio {lines:.2}");
+    println!("converting ratio {converted:.2}");
     println!("ratio {whole:.2}");
 }
 
@@ -255,11 +260,35 @@ fn run_lines() -> f64 {
 }
 
 fn run_written(name: &str, list: &[u8]) -> f64 {
-    line_turns(name, |side, buffers| write_by(side, list, buffers))
+    output_turns(name, "text", |side, buffers| write_by(side, list, buffers))
 }
 
 fn run_read(name: &str, text: &[u8]) -> f64 {
-    line_turns(name, |side, buffers| read_by(side, text, buffers))
+    output_turns(name, "text", |side, buffers| read_by(side, text, buffers))
+}
+
+fn run_converted(name: &str, list: &[u8]) -> f64 {
+    output_turns(name, "list", |side, buffers| {
+        convert_by(side, list, buffers)
+    })
+}
+
+/// Lists of the first edition, and the same in the second; the duels are as long as can
+/// be there.
+fn editions() -> Vec<Workload> {
+    let lists = [
+        (
+            "quiet day, 16 sites",
+            quiet::list([16, 9, 9], Replies::Last),
+        ),
+        ("duel, 16 sites", duel(16, SEED, 32_768 - 19)),
+        ("duel, 3 sites", duel(3, SEED, 32_768 - 6)),
+    ];
+    let both_ways = |(name, first): (&str, Vec<u8>)| {
+        let second = converted(&first).expect("a list that can be converted");
+        [("forward", first), ("back", second)].map(|(way, list)| (format!("{name}, {way}"), list))
+    };
+    lists.into_iter().flat_map(both_ways).collect()
 }
 
 /// A list of 32,768 bytes with as many commands of each sort, but for some
@@ -299,15 +328,15 @@ fn sized_text(bytes: usize) -> Vec<u8> {
     text.into()
 }
 
-/// One call on both sides; prints, and gives library over model.
-fn line_turns(name: &str, call: impl Fn(&dyn Calls, &mut Buffers) -> usize) -> f64 {
+/// One call on both sides, on a text or a list; prints, and gives library over model.
+fn output_turns(name: &str, what: &str, call: impl Fn(&dyn Calls, &mut Buffers) -> usize) -> f64 {
     let by_library = |buffers: &mut Buffers| call(&Library, buffers);
     let by_model = |buffers: &mut Buffers| call(&Model, buffers);
     let (bytes, speeds) = speeds(name, by_library, by_model);
     let (library, model, ratio) = (speeds.library, speeds.model, speeds.ratio());
     let [one, other] = [library, model].map(|speed| 1e6 * bytes as f64 / speed);
     println!(
-        "{name}: {bytes} bytes of text; library {library:.0} bytes/s, model {model:.0} bytes/s; {ratio:.2}; one text takes {one:.1} and {other:.1} microseconds"
+        "{name}: {bytes} bytes of {what}; library {library:.0} bytes/s, model {model:.0} bytes/s; {ratio:.2}; one {what} takes {one:.2} and {other:.2} microseconds"
     );
     ratio
 }
@@ -318,7 +347,21 @@ fn write_by(side: &dyn Calls, list: &[u8], buffers: &mut Buffers) -> usize {
     let number = side.write_lines(black_box(list), lines, output);
     assert_eq!(number, 0);
     black_box(&lines);
-    let (length, _) = output.split_at(8);
+    length_in(output)
+}
+
+/// Converts a list; gives the length of the one that is made.
+fn convert_by(side: &dyn Calls, list: &[u8], buffers: &mut Buffers) -> usize {
+    let Buffers { lines, output, .. } = buffers;
+    let number = side.convert(black_box(list), lines, output);
+    assert_eq!(number, 0);
+    black_box(&lines);
+    length_in(output)
+}
+
+/// The output's length in a result.
+fn length_in(result: &[u8]) -> usize {
+    let (length, _) = result.split_at(8);
     u64::from_le_bytes(length.try_into().expect("8 bytes")) as usize
 }
 

@@ -36,6 +36,27 @@ pub fn weighted(rng: &mut Rng) -> Sizes {
     with_quorums(sizes, far)
 }
 
+/// Sizes that pass, in either edition: of ones most often, else of ones but for one
+/// site, or weighted.
+pub fn even_or_not(rng: &mut Rng) -> Beginning {
+    match rng.below(10) {
+        0..=4 => (Edition::First, plain(rng)),
+        5..=7 => (Edition::Second, plain(rng)),
+        8 => (Edition::Second, nearly_even(rng)),
+        _ => (Edition::Second, weighted(rng)),
+    }
+}
+
+/// Sizes that pass, where all sites but one weigh 1. That one can weigh n - 2, and
+/// three sites have no quorums then.
+fn nearly_even(rng: &mut Rng) -> Sizes {
+    let n = rng.between(MIN_SITES + 1, MAX_SITES);
+    let mut sizes = Sizes::new(n, 0, 0, willing(rng, n));
+    sizes.weights[rng.below(n)] = rng.between(2, n - 2) as u8;
+    let far = far_quorums(rng, &sizes);
+    with_quorums(sizes, far)
+}
+
 /// How many sites there are, few more often.
 fn sites(rng: &mut Rng) -> usize {
     let most = rng.choose(&[5, MAX_SITES]);
@@ -142,7 +163,7 @@ pub fn bad_header(rng: &mut Rng) -> Vec<u8> {
 }
 
 /// Makes one number of these sizes wrong, most often by as little as can be.
-fn break_sizes(rng: &mut Rng, sizes: &mut Sizes) {
+pub fn break_sizes(rng: &mut Rng, sizes: &mut Sizes) {
     let (n, all) = (sizes.n.clamp(1, MAX_SITES), sizes.weight());
     let past = all - sizes.heaviest() + 1;
     match rng.below(9) {

@@ -4,6 +4,8 @@
 
 pub mod bad_lines;
 pub mod bad_lists;
+pub mod editions;
+pub mod outputs;
 pub mod quiet;
 
 use model::calls::{Calls, Model, RESULT_BYTES};

@@ -61,6 +61,8 @@ pub enum Fault {
     FearsMuchNews,
     /// A report of a stop by 19 or 20 is refused with 17.
     FearsLineNumbers,
+    /// A report of a stop by 22 is.
+    FearsUnevenNumber,
     /// After the sender's entry only those from site 1 up are taken.
     MissesSiteZero,
     /// The sender's entry is taken and no other.
@@ -123,7 +125,7 @@ pub enum Fault {
     LeavesRefusedWeights,
     /// A report of a stop by 21 is refused with 17.
     FearsWeightNumber,
-    /// A report of a stop by 22 is written.
+    /// A report of a stop by 23 is written.
     PassesNextNumber,
     /// A report shows the low bytes of the quorums.
     PrintsLowBytes,
@@ -138,7 +140,7 @@ pub const SENDER_FAULTS: [Fault; 5] = [
     Fault::LetsSenderDecide,
 ];
 
-const OTHERS: [Fault; 21] = [
+const OTHERS: [Fault; 22] = [
     Fault::CountsAllEntries,
     Fault::TakesThreeForPrepare,
     Fault::KeepsVector,
@@ -160,6 +162,7 @@ const OTHERS: [Fault; 21] = [
     Fault::AsksNewsBeforeRoom,
     Fault::FearsMuchNews,
     Fault::FearsLineNumbers,
+    Fault::FearsUnevenNumber,
 ];
 
 /// Every fault there is.
@@ -210,6 +213,7 @@ impl Rules for Faulty {
                 (number::LINE..=number::ROOM).any(|stop| numbers.stop == stop.into())
             }
             Fault::FearsWeightNumber => numbers.stop == number::WEIGHT.into(),
+            Fault::FearsUnevenNumber => numbers.stop == number::UNEVEN.into(),
             _ => false,
         };
         if is_refused {

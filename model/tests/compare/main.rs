@@ -7,6 +7,7 @@
 #[path = "../common/mod.rs"]
 mod common;
 mod comparer;
+mod convert;
 mod directed;
 mod faults;
 #[path = "../../ffi/mod.rs"]
@@ -332,7 +333,7 @@ fn generated_reports(both: &mut Comparer, count: usize) -> Result<(), String> {
         let size = 1_022 + at % 5;
         both.report(&encode(&played.world), numbers, size, RESULT_BYTES)?;
         if at % 4 == 0 {
-            let stop = at as u32 / 4 % 24;
+            let stop = at as u32 / 4 % 25;
             let numbers = Numbers { stop, ..numbers };
             both.report_of(&from.next_call(), numbers, size)?;
         }
@@ -379,7 +380,7 @@ fn library_and_model_agree() {
     assert_misweighed(&both);
 }
 
-/// Every number is seen, but for those of lines, which come after these.
+/// Every number is seen, but for those of lines and of converting.
 fn assert_seen(both: &Comparer) {
     for number in (0..=number::BUFFER.into()).chain([number::WEIGHT.into()]) {
         assert!(both.numbers.contains_key(&number), "{number} never seen");

@@ -3,31 +3,12 @@
 use model::calls::{Calls, Model};
 
 use crate::common::bad_lines::{DAY, FIRST};
+use crate::common::outputs::{answer, result, Call};
 use crate::common::M3_LIST;
 use crate::FILL;
 
-/// A call on lines.
-type Call = fn(&Model, &[u8], &mut [u8], &mut [u8]) -> u32;
-
 const WRITE: Call = Model::write_lines;
 const READ: Call = Model::read_lines;
-
-/// The number, and the result, of a call with so much room. A refused call
-/// leaves the buffer.
-fn answer(call: Call, input: &[u8], room: usize) -> (u32, [u8; 16]) {
-    let (mut buffer, mut result) = (vec![FILL; room], [FILL; 16]);
-    let number = call(&Model, input, &mut buffer, &mut result);
-    assert!(number == 0 || buffer.iter().all(|&byte| byte == FILL));
-    (number, result)
-}
-
-/// A result that says these two numbers of less than 65,536.
-fn result(length: u16, place: u16) -> [u8; 16] {
-    let mut result = [0; 16];
-    result[..2].copy_from_slice(&length.to_le_bytes());
-    result[8..10].copy_from_slice(&place.to_le_bytes());
-    result
-}
 
 #[test]
 fn an_accepted_call_gives_length_and_end() {

@@ -37,6 +37,15 @@ stored-at f (suc k) l i h room =
     ∙ getD-set-same (storedTo f k l) k (f k) 0 (rw stored-length (omega arith)) ∙ ap f (sym e))
     (λ e. getD-set-other (storedTo f k l) k i (f k) 0 e ∙ stored-at f k l i (omega arith) room)
 
+-- values that are the same below k are stored the same
+pub stored-same :
+    (f g : ℕ → ℕ) (k : ℕ) (l : List ℕ) → ((i : ℕ) → i < k → f i ≡ g i) → storedTo f k l ≡ storedTo g k l
+unfolding storedTo
+stored-same f g zero l each = refl
+stored-same f g (suc k) l each =
+    ap (λ m. set m k (f k)) (stored-same f g k l (λ i h. each i (omega arith)))
+    ∙ ap (λ x. set (storedTo g k l) k x) (each k (omega arith))
+
 -- places past the list's end hold nothing
 pub stored-past : (f : ℕ → ℕ) (k : ℕ) (l : List ℕ) → length l ≤ k → storedTo f k l ≡ storedTo f (length l) l
 unfolding storedTo

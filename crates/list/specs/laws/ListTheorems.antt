@@ -96,7 +96,7 @@ list-is-run store list room e =
 
 -- a claim of a whole play, shown where a store that is too short or a header is refused, and of a run
 
-short-refused : (store list : List ℕ) → ltb (length store) storeBytes ≡ true → playList store list ≡ refusedList 16 store
+pub short-refused : (store list : List ℕ) → ltb (length store) storeBytes ≡ true → playList store list ≡ refusedList 16 store
 unfolding playList
 short-refused store list e = rw e
 

@@ -22,16 +22,16 @@ sets-beyond b at (a ∷ out) k h =
     sets-beyond (set b at a) (suc at) out k (omega arith) ∙ getD-set-other b at k a 0 (omega arith)
 
 -- a refusal, a choice, an output
-refuse-untouched : (number place : ℕ) (b : List ℕ) → Untouched (refuse number place b) b
+pub refuse-untouched : (number place : ℕ) (b : List ℕ) → Untouched (refuse number place b) b
 unfolding refuse
 refuse-untouched number place b =
     record { refused-same = λ bad. (refl, refl); beyond-same = λ k h. refl; same-length = refl }
 
-pick-untouched : (t : Bool) (x y : Output) (b : List ℕ) → Untouched x b → Untouched y b → Untouched (pick t x y) b
+pub pick-untouched : (t : Bool) (x y : Output) (b : List ℕ) → Untouched x b → Untouched y b → Untouched (pick t x y) b
 pick-untouched true x y b p q = p
 pick-untouched false x y b p q = q
 
-put-untouched : (place : ℕ) (out b : List ℕ) → Untouched (putOut place out b) b
+pub put-untouched : (place : ℕ) (out b : List ℕ) → Untouched (putOut place out b) b
 unfolding putOut
 put-untouched place out b =
     pick-untouched (ltb (length b) (length out)) _ _ b (refuse-untouched 20 0 b)

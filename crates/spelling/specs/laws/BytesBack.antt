@@ -29,20 +29,20 @@ use Rattle.spelling.specs.WriteRead.{bytesOf}
 use Rattle.spelling.specs.laws.Spelt.{Spelt, Says}
 
 -- a number of two bytes, the low byte first
-whole : (x : ℕ) → x % 256 + 256 * (x / 256) ≡ x
+pub whole : (x : ℕ) → x % 256 + 256 * (x / 256) ≡ x
 whole x = omega (arith, div-add-mod x 256)
 
-low-byte : (low high : ℕ) → low < 256 → (low + 256 * high) % 256 ≡ low
+pub low-byte : (low high : ℕ) → low < 256 → (low + 256 * high) % 256 ≡ low
 low-byte low high h = add-mul-mod-self-left low 256 high ∙ mod-eq-of-lt h
 
-high-byte : (low high : ℕ) → low < 256 → (low + 256 * high) / 256 ≡ high
+pub high-byte : (low high : ℕ) → low < 256 → (low + 256 * high) / 256 ≡ high
 high-byte low high h = omega (arith, div-add-mod (low + 256 * high) 256, low-byte low high h)
 
 -- a byte inside a list is the first of what is left there
 first-byte : (list : List ℕ) (at : ℕ) → at < length list → drop at list ≡ getD list at 0 ∷ drop (at + 1) list
 first-byte list at h = rw add-one (drop-cons list at 0 h)
 
-later-byte :
+pub later-byte :
     (list : List ℕ) (at i : ℕ) → at + i < length list →
     drop (at + i) list ≡ getD list (at + i) 0 ∷ drop (at + suc i) list
 later-byte list at i h = rw add-suc (drop-cons list (at + i) 0 h)

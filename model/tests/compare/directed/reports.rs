@@ -45,7 +45,7 @@ fn worlds() -> Vec<World> {
 
 /// Every stop number there is, and some beyond.
 fn stops(both: &mut Comparer, world: &World, size: usize) -> Done {
-    let beyond = [22, 23, 255, 256, 257, 256 + 21, 1 << 16, u32::MAX];
+    let beyond = [23, 24, 255, 256, 257, 256 + 22, 1 << 16, u32::MAX];
     for stop in (0..=number::LAST.into()).chain(beyond) {
         let refused = (stop > number::LAST.into()).then_some("17 stop number");
         check(both, world, Numbers { stop, ..SOME }, size, refused)?;

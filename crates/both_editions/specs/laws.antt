@@ -1,0 +1,5 @@
+pub mod Shift
+pub mod ShiftedPlay
+pub mod HeaderBack
+pub mod Carrying
+pub mod Theorems
