@@ -16,14 +16,25 @@ pub fn convert(list: &[u8], buffer: &mut [u8]) -> Output {
 /// The list in the other edition. Checks the header's numbers, then 22, then 1 of the
 /// list that is made. Whatever comes after the header is taken over, not played.
 pub fn converted(list: &[u8]) -> Result<Vec<u8>, u8> {
-    let header = Header::of_list(list)?;
-    let other = Edition::of(list).other();
-    if other == Edition::First {
-        header.sizes.check_even()?;
-    }
+    let edition = Edition::of(list);
+    let header = read(edition, list)?;
+    let other = edition.other();
     let made = [&other.header(&header.sizes), &list[header.end..]].concat();
     if made.len() > MAX_LIST {
         return Err(number::LIST_LONG);
     }
     Ok(made)
+}
+
+/// The header of a list that can be converted. Only after 130 is the first byte anything
+/// but an n; such a list goes back where each site weighs 1.
+fn read(edition: Edition, list: &[u8]) -> Result<Header, u8> {
+    match edition {
+        Edition::First => Header::of_first_edition(list),
+        Edition::Second => {
+            let header = Header::of_list(list)?;
+            header.sizes.check_even()?;
+            Ok(header)
+        }
+    }
 }

@@ -34,10 +34,13 @@ converted list = otherBytes (isSecond list) (headerOf list) ++ drop (headerLengt
 unfoldable pub allOne : ℕ → List ℕ → Bool
 allOne n weights = allBelow (λ i. eqb (weightOf weights i) 1) n
 
+-- a number, or the one after it where it is 0
+abbrev pub firstOf : ℕ → ℕ → ℕ
+firstOf number after = pick (eqb number 0) after number
+
 -- going back: the number of length and header, then 22
 unfoldable pub backNumber : List ℕ → ℕ
-backNumber list =
-    pick (eqb (headerNumber list) 0) (pick (allOne (headerOf list .n) (headerWeights list)) 0 22) (headerNumber list)
+backNumber list = firstOf (headerNumber list) (pick (allOne (headerOf list .n) (headerWeights list)) 0 22)
 
 -- whichever way the list goes; forward it can only be of the first edition
 unfoldable pub editionNumber : List ℕ → ℕ
@@ -45,8 +48,7 @@ editionNumber list = pick (isSecond list) (backNumber list) (firstNumber list)
 
 -- and 1 where the converted list would be too long; 0 for none
 unfoldable pub convertNumber : List ℕ → ℕ
-convertNumber list =
-    pick (eqb (editionNumber list) 0) (pick (ltb listBytes (length (converted list))) 1 0) (editionNumber list)
+convertNumber list = firstOf (editionNumber list) (pick (ltb listBytes (length (converted list))) 1 0)
 
 -- CONVERTING: a list of either edition into the other, from the buffer's beginning; the place is the list's length
 unfoldable pub convert : List ℕ → List ℕ → Output

@@ -7,7 +7,7 @@ use native.Mathlib.Omega.{arith}
 use lib.Dec.{ltb, eqb}
 use lib.ListN.{length, length-append, length-drop, length-replicate, replicate-append-replicate, take, drop, getD, replicate}
 use borrow.Rule.Slice.PartAt.{part-to-end}
-use borrow.Author.Tests.{lt-ltb, le-ltb, ltb-false, eq-eqb, ne-eqb, eqb-true, eqb-false}
+use borrow.Author.Tests.{lt-ltb, le-ltb, ltb-false, eq-eqb, ne-eqb, eqb-true}
 use Rattle.choice.specs.Choice.{pick}
 use Rattle.choice.specs.laws.Cases.{by-test, by-equal}
 use Rattle.choice.specs.laws.ChoiceLaws.{pick-ind}
@@ -16,17 +16,16 @@ use Rattle.bits.specs.laws.BitLaws.{bits-below}
 use Rattle.weights.specs.Weights.{weightOf, weightsBy, evenWeights}
 use Rattle.weights.specs.laws.WeightLaws.{weight-listed}
 use Rattle.world.specs.Sizes.{listBytes}
-use Rattle.world.specs.laws.SizesLaws.{Sized}
 use Rattle.header.specs.declared.Header.{Header}
 use Rattle.header.specs.Headers.{isSecond, headerOf, headerWeights, headerLength, headerNumber, firstSizes}
-use Rattle.header.specs.laws.HeaderLaws.{headed, header-sized}
+use Rattle.header.specs.laws.HeaderLaws.{headed}
 use Rattle.header.specs.laws.FirstLaws.{FirstSized, first-sized}
 use Rattle.header.specs.laws.Editions.{FirstPlayed, first-played}
 use Rattle.text.specs.laws.Written.{Written, joined, written-length}
 use Rattle.spelling.specs.Ranges.{HeaderInRange}
 use Rattle.spelling.specs.WriteRead.{refuse, putOut}
 use Rattle.spelling.specs.laws.BytesBack.{length-header}
-use Rattle.conversion.specs.laws.NumberLaws.{convert-not-20}
+use Rattle.conversion.specs.laws.NumberLaws.{accepted-high, first-none, convert-not-20}
 use Rattle.conversion.specs.Conversion.{
   secondBytes,
   otherBytes,
@@ -65,18 +64,16 @@ pub record Back (list : List ℕ) : Type 0 where
 
 pub back : (list : List ℕ) → backNumber list ≡ 0 → Back list
 unfolding backNumber
-back list =
+back list e =
     let ones : Bool = allOne (headerOf list .n) (headerWeights list) in
-    pick-ind (λ x. x ≡ 0 → Back list) (eqb (headerNumber list) 0) (pick ones 0 22) (headerNumber list)
-    (λ e. pick-ind (λ x. x ≡ 0 → Back list) ones 0 22 (λ f _. record { accepted = eqb-true (headerNumber list) 0 e; ones = f }) (λ _ z. absurd (omega arith)))
-    (λ e z. absurd (eqb-false (headerNumber list) 0 e z))
+    let after : ℕ = pick ones 0 22 in
+    let none : (headerNumber list ≡ 0) × (after ≡ 0) = first-none (headerNumber list) after e in
+    pick-ind (λ x. x ≡ 0 → Back list) ones 0 22 (λ f _. record { accepted = none .0; ones = f }) (λ _ z. absurd (omega arith)) (none .1)
 
 back-even : (list : List ℕ) → isSecond list ≡ true → Back list → headerWeights list ≡ evenWeights (headerOf list .n)
 unfolding headerWeights
 back-even list second b =
-    let z : Sized (headerOf list .n) (headerWeights list) (headerOf list .commit) (headerOf list .abort) (headerOf list .willing) =
-    header-sized (headerOf list) (headerWeights list) (headed list (b .accepted) .sizes) in
-    rw second (all-one-even (λ i. getD list (8 + i) 0) (headerOf list .n) (z .high) (rw second at (b .ones)))
+    rw second (all-one-even (λ i. getD list (8 + i) 0) (headerOf list .n) (accepted-high list (b .accepted)) (rw second at (b .ones)))
 
 -- whichever way it goes
 pub carried : (list : List ℕ) → editionNumber list ≡ 0 → Carried list
@@ -186,11 +183,12 @@ pub record Converts (list : List ℕ) : Type 0 where
 
 pub converts : (list : List ℕ) → convertNumber list ≡ 0 → Converts list
 unfolding convertNumber
-converts list =
-    pick-ind (λ x. x ≡ 0 → Converts list) (eqb (editionNumber list) 0) (pick (ltb listBytes (length (converted list))) 1 0) (editionNumber list)
-    (λ e. pick-ind (λ x. x ≡ 0 → Converts list) (ltb listBytes (length (converted list))) 1 0 (λ _ z. absurd (omega arith))
-    (λ f _. record { carries = eqb-true (editionNumber list) 0 e; fits = ltb-false listBytes (length (converted list)) f }))
-    (λ e z. absurd (eqb-false (editionNumber list) 0 e z))
+converts list e =
+    let long : Bool = ltb listBytes (length (converted list)) in
+    let after : ℕ = pick long 1 0 in
+    let none : (editionNumber list ≡ 0) × (after ≡ 0) = first-none (editionNumber list) after e in
+    pick-ind (λ x. x ≡ 0 → Converts list) long 1 0 (λ _ z. absurd (omega arith))
+    (λ f _. record { carries = none .0; fits = ltb-false listBytes (length (converted list)) f }) (none .1)
 
 pub converting : (list : List ℕ) → Converts list → convertNumber list ≡ 0
 unfolding convertNumber

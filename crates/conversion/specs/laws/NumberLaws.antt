@@ -6,14 +6,15 @@ use mathlib.Core.Path.{_≡_, ap, sym, _∙_}
 use native.Mathlib.Omega.{arith}
 use lib.Dec.{ltb, eqb}
 use lib.ListN.{length}
-use borrow.Author.Tests.{lt-ltb, le-ltb, eq-eqb, ne-eqb}
+use borrow.Author.Tests.{lt-ltb, le-ltb, eq-eqb, ne-eqb, eqb-true, eqb-false}
 use Rattle.choice.specs.Choice.{pick}
+use Rattle.choice.specs.laws.ChoiceLaws.{pick-ind}
 use Rattle.world.specs.Sizes.{listBytes}
 use Rattle.world.specs.laws.SizesLaws.{Sized}
 use Rattle.header.specs.declared.Header.{Header}
 use Rattle.header.specs.Headers.{isSecond, headerOf, headerWeights, headerNumber, firstNumber}
 use Rattle.header.specs.laws.HeaderLaws.{headed, header-sized, headerStop, header-stop, first-small}
-use Rattle.conversion.specs.Conversion.{converted, allOne, backNumber, editionNumber, convertNumber}
+use Rattle.conversion.specs.Conversion.{converted, allOne, firstOf, backNumber, editionNumber, convertNumber}
 
 -- an accepted header has at most sixteen sites
 pub accepted-high : (list : List ℕ) → headerNumber list ≡ 0 → headerOf list .n ≤ 16
@@ -22,10 +23,19 @@ accepted-high list e =
     header-sized (headerOf list) (headerWeights list) (headed list e .sizes) in
     z .high
 
+-- a number that is not 0 comes first, and where there is none both are 0
+first-stands : (a b number : ℕ) → number ≡ a → (number ≡ 0 → ⊥) → number ≡ firstOf a b
+first-stands a b number e bad = rw (ne-eqb a 0 (λ z. bad (e ∙ z))) e
+
+pub first-none : (a b : ℕ) → firstOf a b ≡ 0 → (a ≡ 0) × (b ≡ 0)
+first-none a b =
+    pick-ind (λ x. x ≡ 0 → (a ≡ 0) × (b ≡ 0)) (eqb a 0) b a (λ e z. (eqb-true a 0 e, z)) (λ e z. absurd (eqb-false a 0 e z))
+
 module _ (list : List ℕ) where
   pub back-header : (number : ℕ) → number ≡ headerNumber list → (number ≡ 0 → ⊥) → number ≡ backNumber list
   unfolding backNumber
-  back-header number e bad = rw (ne-eqb (headerNumber list) 0 (λ z. bad (e ∙ z))) e
+  back-header number e bad =
+      first-stands (headerNumber list) (pick (allOne (headerOf list .n) (headerWeights list)) 0 22) number e bad
 
   pub back-ones :
       (h : Header) (weights : List ℕ) (ones : Bool) → headerNumber list ≡ 0 → h ≡ headerOf list → weights ≡ headerWeights list →
@@ -37,7 +47,8 @@ module _ (list : List ℕ) where
 
   pub convert-edition : (number : ℕ) → number ≡ editionNumber list → (number ≡ 0 → ⊥) → number ≡ convertNumber list
   unfolding convertNumber
-  convert-edition number e bad = rw (ne-eqb (editionNumber list) 0 (λ z. bad (e ∙ z))) e
+  convert-edition number e bad =
+      first-stands (editionNumber list) (pick (ltb listBytes (length (converted list))) 1 0) number e bad
 
   pub convert-long : editionNumber list ≡ 0 → listBytes < length (converted list) → 1 ≡ convertNumber list
   unfolding convertNumber
