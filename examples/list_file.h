@@ -1,4 +1,4 @@
-/* What play_day.c, quiet_list.c and convert_list.c share: a list is read from a file, or written to standard output. */
+/* What play_day.c, quiet_list.c, convert_list.c and all_back.c share: a list is read from a file, or written to standard output. */
 #ifndef LIST_FILE_H
 #define LIST_FILE_H
 

@@ -1,4 +1,4 @@
-/* What play_day.c, play_lines.c and weights.c share: a list is played, and its report printed. */
+/* What play_day.c, play_lines.c, weights.c and all_back.c share: a list is played, and its report printed. */
 #ifndef PLAYED_H
 #define PLAYED_H
 
@@ -9,16 +9,15 @@
 /* Exit statuses. */
 enum { PLAYED = 0, REFUSED = 1, FAILED = 2 };
 
-/* How a list ended; its world stands below. */
+/* How a list ended; its world and its rows stand below. */
 struct played {
     uint32_t number, events, place;
 };
 
-static uint8_t world[QC_WORLD_BYTES];
+static uint8_t world[QC_WORLD_BYTES], store[QC_STORE_BYTES];
 
 static struct played play(const uint8_t *list, size_t length)
 {
-    static uint8_t store[QC_STORE_BYTES];
     uint8_t result[QC_RESULT_BYTES];
     struct played played;
 

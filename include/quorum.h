@@ -74,12 +74,30 @@
  * A competition's weights never change.
  *
  * There is room for QC_ROWS rows, and none is ever given back. Each TIMEOUT of a site that is not active spends one, even where nothing has
- * arrived since the last; so 15 (QC_STORE_FULL) can end a competition undecided. A caller should let replies arrive before it lets a site time out.
+ * arrived since the last; so 15 (QC_STORE_FULL) can end a competition undecided. A caller should let replies arrive before it lets a site time out, and
+ * keep rows for the end (see WHEN EVERYONE IS BACK).
  *
  * NEWS. A world knows how many codes its sites have taken from rows, over all accepted deliveries; a site's own code is never among them. A delivery
  * that does not raise this number was idle: it told its site nothing new of the others (the site may still have written a record or replied). What a
  * CRASH makes a site forget is not taken off, and counts again when it is told again. No call leaves more than QC_NEWS: a world handed in with more is
  * 17, and so is, after all other checks, a delivery that would pass it. No list is long enough for that.
+ *
+ * WHEN EVERYONE IS BACK. Whatever was lost or late, whoever crashed or led beside others, a competition can be brought to its end. RECOVER every site
+ * that is down. Then give sites 0 to n - 1 a turn each, three rounds running. A turn is TIMEOUT at the site; the row that this sends, if any, delivered
+ * to all other sites in number order; and after each of these deliveries the row that it adds, the reply, delivered back to the site before the next.
+ * Where C + A is W + 1 and at least 3 n n rows are free as the rounds begin:
+ * - No event of the rounds is refused.
+ * - Every site ends with the same outcome; if a site had one before, it is that one. A caller may stop as soon as all have it.
+ * - There are at most 3 n (2 n - 1) events, and at most 3 n n rows are sent: 45 and 27 for 3 sites, 1,488 and 768 for 16.
+ * This holds of every world that calls have left, from a fresh one on, with the store that they have left. Its news must be at most
+ * QC_NEWS - 3 n (n - 1), which is all that the rounds can tell; after a list it always is, and single commands without end may bring it higher.
+ * Nothing is promised in other cases:
+ * - C + A over W + 1: some sites may be in the commit group and all others in the abort group, neither with its quorum, and stay so for good. So choose
+ *   C + A = W + 1 unless there is a reason for more; C = W / 2 + 1 with A = W - W / 2 is such a pair.
+ * - Fewer rows free: 15 may come before the outcome.
+ * - A site that stays down: 12 comes where it has its turn or a row is delivered to it. Without it the others may have a quorum, or may not.
+ * - Turns in another order, fewer of them, or replies that are lost or late: there may be an outcome, or none yet.
+ * examples/all_back.c plays a list and then does all of this.
  *
  * LINES. A list can also be typed: a line for its header, then one line a command. Each line with the bytes that it stands for:
  *     sites 3 commit 2 abort 2 willing 7    03 02 02 07 00

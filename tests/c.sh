@@ -1,5 +1,6 @@
 #!/usr/bin/env bash
-# The library from C: the headers, their readers, the cases around every number, the quiet day and the examples, built strictly and run.
+# The library from C: the headers, their readers, the cases around every number, the quiet day, the rounds when everyone is back and the examples, built
+# strictly and run.
 # Wants target/staticlib/libquorum.a.
 set -euo pipefail
 cd "$(dirname "$0")/.."
@@ -43,8 +44,10 @@ build readers "${readers[@]}"
 target/readers
 build cases tests/cases/*.c
 target/cases
-build quiet_day tests/quiet_day.c
+build quiet_day tests/quiet_day.c tests/shared.c
 target/quiet_day
+build all_back_worlds tests/all_back*.c tests/shared.c
+target/all_back_worlds
 
 build play_day examples/play_day.c
 for list in '' examples/m3.bin; do
@@ -165,6 +168,115 @@ status 2 target/convert_list "$work"
 status 2 target/convert_list examples/m3.bin examples/m3.bin
 full convert_list examples/m3.bin
 echo "C: convert_list turns $written vectors into the other edition and back, and tells why $refused are refused; 0, 1 and 2 as its exit status"
+
+build all_back examples/all_back.c
+weight() { # LIST: what all its sites weigh together
+    od -An -v -w24 -tu1 -N24 "$1" | awk '$1 != 130 { sum = $1 } $1 == 130 { for (i = 9; i < 9 + $2; i++) sum += $i } { print sum }'
+}
+ending() { # LIST STATUS: 1 if all_back must finish this list, else 0; then how it ended: committed, aborted or undecided, or what is wrong
+    awk -v weight="$(weight "$1")" -v status="$2" '
+        FNR == 1 { part++ } # the report of the list by itself, that of all_back, what it said
+        part == 3 { if ($1 == "added") { events = $2; rows = $5 } next }
+        FNR == 1 { n = $2; over = $4 + $6 - weight - 1; had[part] = $8; held[part] = $10; next }
+        FNR <= n + 1 { down[part] += $2 == "down"; state[part, $1] = $4; next }
+        { last[part] = $0 }
+        END {
+            how = state[2, 0]
+            for (site = 0; site < n; site++) {
+                if (state[2, site] != state[2, 0] || state[2, site] !~ /^(committed|aborted)$/) how = "undecided"
+                if (state[1, site] ~ /^(committed|aborted)$/ && state[2, site] != state[1, site]) wrong = "an outcome has changed"
+            }
+            enough = held[1] + 3 * n * n <= 1024
+            due = enough && over == 0
+            if (due && how == "undecided") wrong = "it is not finished"
+            if (status > 1 || enough && status != (how == "undecided")) wrong = "it exits " status
+            if (had[2] != had[1] + events || held[2] != held[1] + rows || last[2] != last[1] || down[2] > 0) wrong = "the reports do not fit"
+            if (events > down[1] + 3 * n * (2 * n - 1) || rows > 3 * n * n) wrong = "too much is added"
+            print due + 0, wrong != "" ? wrong : how
+        }' "${1%.bin}.out" "$work/got" "$work/errors"
+}
+committed=0
+aborted=0
+due=0
+refused=0
+for list in tests/vectors/{base,01-restart,02-news,06-weights}/*.bin; do
+    if [ "$(wc -l < "${list%.bin}.out")" -eq 1 ]; then
+        refused=$((refused + 1))
+        status 1 target/all_back "$list"
+        cmp "$work/got" "${list%.bin}.out"
+        continue
+    fi
+    got=0
+    target/all_back "$list" > "$work/got" 2> "$work/errors" || got=$?
+    read -r must how < <(ending "$list" "$got")
+    due=$((due + must))
+    case $how in
+    committed) committed=$((committed + 1)) ;;
+    aborted) aborted=$((aborted + 1)) ;;
+    undecided) ;;
+    *) fail "all_back: $list: $how" ;;
+    esac
+done
+if [ "$committed" -lt 40 ] || [ "$aborted" -lt 81 ] || [ "$due" -lt 110 ] || [ "$refused" -lt 40 ]; then
+    fail "all_back: only $committed vectors commit and $aborted abort, $due must do so, $refused have no world"
+fi
+finish() { # STATUS LIST SAID ..: all_back exits so with a list, its bytes as printf has them, and says these lines
+    printf '%b' "$2" > "$work/list"
+    status "$1" target/all_back "$work/list"
+    printf '%s\n' "${@:3}" | cmp - "$work/errors"
+}
+sites() { # COUNT STATE: so many sites are in this state
+    [ "$(grep -c " coordinator $2 " "$work/got")" -eq "$1" ] || fail "all_back: $1 sites are not $2"
+}
+cat > "$work/want" <<'WANT'
+sites 3 commit 2 abort 2 events 52 rows 32 news 12
+0 up coordinator aborted PAa 555
+1 up coordinator aborted P-a 555
+2 up coordinator aborted -Aa 555
+end 26
+WANT
+status 0 target/all_back examples/m3.bin
+cmp "$work/got" "$work/want"
+status 0 target/all_back < examples/m3.bin
+cmp "$work/got" "$work/want"
+voted="$three"'\001\002\000\000\001\002\000\000\002\002\001\000\000\002\002\000\000'
+finish 0 "$voted" 'added 45 events and 27 rows'
+cmp "$work/got" - <<'WANT'
+sites 3 commit 2 abort 2 events 50 rows 30 news 18
+0 up coordinator committed PCc 444
+1 up coordinator committed PCc 444
+2 up coordinator committed PCc 444
+end 22
+WANT
+# sites 0 and 2 are down, and then there is no command 9
+finish 0 "$voted"'\004\000\004\002\011\001' 'the list was refused at 26: no command byte, or not 1 to 5' 'added 47 events and 27 rows'
+sites 3 committed
+[ "$(tail -n 1 "$work/got")" = 'refused 6 at 26' ] || fail 'all_back: the last line is not that of the list'
+# two of four in each group: undecided where C + A is W + 2
+split='\001\002\000\000\001\002\000\000\002\002\000\000\003\002\001\000\000\002\002\000\000\002\003\000\000'
+split="$split"'\003\000\002\004\000\001\004\002\005\002\003\002\003\002\002\007\000\003'
+finish 0 '\004\002\003\017\000'"$split" 'added 84 events and 48 rows'
+sites 4 committed
+finish 0 '\004\003\002\017\000'"$split" 'added 84 events and 48 rows'
+sites 4 aborted
+stays='both groups may be left without their quorum'
+finish 1 '\004\003\003\017\000'"$split" 'added 84 events and 48 rows' 'the sites stay undecided' "C + A is 6, over W + 1, which is 5: $stays"
+sites 2 commit-group
+sites 2 abort-group
+finish 1 '\202\004\005\000\005\000\017\000\002\002\002\002'"$split" \
+    'added 84 events and 48 rows' 'the sites stay undecided' "C + A is 10, over W + 1, which is 9: $stays"
+# 994 votes more, and 27 rows are free; one more, and they are too few
+again=$(printf '\\002\\000\\000\\001%.0s' {1..994})
+finish 0 "$voted$again" 'added 45 events and 27 rows'
+finish 1 "$voted$again"'\002\000\000\001' \
+    'added 43 events and 26 rows' 'the rounds were refused: a row is to be added and 1,024 are there' '26 rows were free, and the rounds may take 27'
+finish 1 '\002\002\002\003\000' 'the list was refused at 0: the number of sites is not 3 to 16'
+[ "$(cat "$work/got")" = 'refused 3 at 0' ] || fail 'all_back: a list without a world has a report'
+status 2 target/all_back "$work/missing"
+status 2 target/all_back "$work"
+status 2 target/all_back examples/m3.bin examples/m3.bin
+full all_back examples/m3.bin
+echo "C: all_back finishes $((committed + aborted)) vectors ($due must, $committed commit) and tells why others do not; 0, 1 and 2 as its exit status"
 
 build play_lines examples/play_lines.c
 status 0 target/play_lines examples/m3.txt

@@ -6,10 +6,11 @@
  * Exits 0 if all is as it should be, 1 after the first difference.
  */
 #include <stdio.h>
-#include <stdlib.h>
 #include <string.h>
 
-#include "../include/quorum_read.h"
+#include "shared.h"
+
+const char *const test_name = "quiet day";
 
 enum { FEWEST_SITES = 3, FILL = 0xee };
 
@@ -41,24 +42,7 @@ static struct {
 
 static struct day first_edition, whole, replies_last, replies_at_once;
 static uint8_t result[QC_LINES_RESULT_BYTES];
-static char current[160];
 static unsigned days;
-
-static void expect(const char *what, uint64_t got, uint64_t wanted)
-{
-    if (got != wanted) {
-        printf("quiet day: %s: %s %llu, not %llu\n", current, what, (unsigned long long)got, (unsigned long long)wanted);
-        exit(1);
-    }
-}
-
-static void expect_same(const char *what, const uint8_t *got, const uint8_t *wanted, size_t length)
-{
-    size_t at = 0;
-    while (at < length && got[at] == wanted[at])
-        at++;
-    expect(what, at, length);
-}
 
 /* The day being played, for what is said of a difference. */
 static void name_day(const char *edition, const struct sizes *sizes)
@@ -309,23 +293,6 @@ static void all_days(void)
     printf("quiet day: 560 days of 3 to 16 sites with all legal quorums, each in two orders and as a list, and in both editions\n");
 }
 
-static unsigned all_weight(const struct sizes *sizes)
-{
-    unsigned site, sum = 0;
-    for (site = 0; site < sizes->n; site++)
-        sum += sizes->weights[site];
-    return sum;
-}
-
-static unsigned heaviest(const struct sizes *sizes)
-{
-    unsigned site, most = 0;
-    for (site = 0; site < sizes->n; site++)
-        if (sizes->weights[site] > most)
-            most = sizes->weights[site];
-    return most;
-}
-
 static void play_quorums(struct sizes *sizes, unsigned commit_quorum, unsigned abort_quorum)
 {
     sizes->commit_quorum = commit_quorum;
@@ -345,7 +312,8 @@ static unsigned draw(unsigned least, unsigned most)
 /* With W and h as in the request: each the most, C the most and A the least, the other way round, both about half of W, and a pair that is drawn. */
 static void play_weights(struct sizes *sizes)
 {
-    const unsigned sum = all_weight(sizes), most = sum - heaviest(sizes), least = heaviest(sizes) + 1;
+    const unsigned sum = all_weight(sizes->n, sizes->weights), largest = heaviest(sizes->n, sizes->weights);
+    const unsigned most = sum - largest, least = largest + 1;
     const unsigned drawn = draw(least, most);
     play_quorums(sizes, most, most);
     play_quorums(sizes, most, least);
@@ -357,7 +325,7 @@ static void play_weights(struct sizes *sizes)
 /* Are there legal quorums? */
 static int is_legal(const struct sizes *sizes)
 {
-    return all_weight(sizes) > 2 * heaviest(sizes);
+    return all_weight(sizes->n, sizes->weights) > 2 * heaviest(sizes->n, sizes->weights);
 }
 
 /* All weigh 255; from 2 up by one each, and down. */
@@ -387,7 +355,7 @@ static void play_odd_one(struct sizes *sizes, unsigned one)
     weigh_alike(sizes, 256 / others);
     sizes->weights[one == 0] = (uint8_t)(256 / others + 256 % others);
     sizes->weights[one] = 255;
-    expect("weight of the others", all_weight(sizes) - 255, 256);
+    expect("weight of the others", all_weight(sizes->n, sizes->weights) - 255, 256);
     play_weights(sizes);
 }
 

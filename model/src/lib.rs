@@ -1,11 +1,11 @@
 //! An independent model of the quorum commitment player for inter-club sheets.
 //!
-//! The rules, the checks, the report, the lines, the quiet day's list and the converter
-//! are written from documents 01 and 02, with mutable state and plain Rust, so that
-//! another player can be compared with them. Only layout.rs and calls.rs follow
-//! docs/LAYOUT.md: they say how a world and the answers cross to C. The call that writes
-//! the quiet day's list, with the order of its refusals, is in no paper but in
-//! docs/DECISIONS.md, 69.
+//! The rules, the checks, the report, the lines, the quiet day's list, the converter and
+//! the rounds of everyone who is back are written from documents 01 and 02, with mutable
+//! state and plain Rust, so that another player can be compared with them. Only
+//! layout.rs and calls.rs follow docs/LAYOUT.md: they say how a world and the answers
+//! cross to C. The call that writes the quiet day's list, with the order of its
+//! refusals, is in no paper but in docs/DECISIONS.md, 69.
 
 #![forbid(unsafe_code)]
 
@@ -24,6 +24,7 @@ pub mod play;
 pub mod player;
 pub mod quiet;
 pub mod report;
+pub mod rounds;
 pub mod row;
 pub mod scale;
 pub mod site;
@@ -42,6 +43,7 @@ pub use play::{one_command, play_list, Played};
 pub use player::printed;
 pub use quiet::{write_quiet, Replies};
 pub use report::{report, Numbers};
+pub use rounds::{play_rounds, Rounds};
 pub use row::{Kind, Row};
 pub use site::{GroupRecord, Log, Role, Site};
 pub use sizes::Sizes;

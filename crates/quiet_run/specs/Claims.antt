@@ -34,10 +34,14 @@ pub record Wanted (n : ℕ) (weights : List ℕ) (c : CommitQuorum) (a : AbortQu
   pub all-willing : (j : ℕ) → j < n → hasBit willing j ≡ true
   pub room : storeBytes ≤ length store
 
--- commands as calls: each in a list of its own, at its first byte
+-- a command as a call: in a list of its own, at its first byte
+abbrev pub askOf : Command → Ask
+askOf c = record { list = commandBytes c; place = 0 }
+
+-- commands as calls, one each
 unfoldable pub asksOf : List Command → List Ask
 asksOf [] = []
-asksOf (c ∷ commands) = record { list = commandBytes c; place = 0 } ∷ asksOf commands
+asksOf (c ∷ commands) = askOf c ∷ asksOf commands
 
 -- each of some calls is accepted
 unfoldable pub AllAccepted : World → List ℕ → List Ask → Type 0

@@ -7,6 +7,7 @@ pub mod bad_lists;
 pub mod editions;
 pub mod outputs;
 pub mod quiet;
+pub mod rounds;
 
 use model::calls::{Calls, Model, RESULT_BYTES};
 use model::command::list_of;

@@ -29,7 +29,7 @@ pub const USUAL: Lengths = Lengths {
 };
 
 /// The buffers that playing writes, and those that reporting does.
-const PLAYED: [&str; 3] = ["store", "world", "result"];
+pub const PLAYED: [&str; 3] = ["store", "world", "result"];
 const REPORTED: [&str; 2] = ["buffer", "result"];
 
 /// The numbers at which a list is not begun: the world of zeros, no events and

@@ -14,6 +14,7 @@ mod faults;
 mod ffi;
 mod lines;
 mod quiet;
+mod rounds;
 
 use std::collections::BTreeMap;
 use std::time::Instant;

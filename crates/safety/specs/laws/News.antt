@@ -138,7 +138,7 @@ elsewhere own k code other =
     }
 
 -- an entry of another site after a delivery
-entry-after :
+pub entry-after :
     (own n : ℕ) (willing : Bool) (row : Row) (s : Site) (k : ℕ) → n ≤ length (s .codes) → k < n → (k ≡ own → ⊥) →
     getD (deliver own n willing row s .step .site .codes) k 0 ≡ mergeEntry (getD (s .codes) k 0) (getD (row .codes) k 0)
 unfolding deliver afterHearing bringing hear withCodes Moved Held

@@ -82,7 +82,7 @@ unfolding validVector
 vector-valid n v s = entries-valid n 16 v (s .at)
 
 -- codes that 10 lets pass
-known-small : (n : ℕ) (said : List ℕ) → codesKnown n said ≡ true → (i : ℕ) → i < n → getD said i 0 ≤ 5
+pub known-small : (n : ℕ) (said : List ℕ) → codesKnown n said ≡ true → (i : ℕ) → i < n → getD said i 0 ≤ 5
 unfolding codesKnown
 known-small zero said e i h = absurd (omega arith)
 known-small (suc k) said e i h =
@@ -99,7 +99,7 @@ set-sound n own code v below room h s =
           (λ e. record { small = λ _. h; none = λ k. absurd (omega arith) }) (λ _. s .at i l);
     }
 
-merged-small : (held said : ℕ) → held ≤ 5 → said ≤ 5 → mergeEntry held said ≤ 5
+pub merged-small : (held said : ℕ) → held ≤ 5 → said ≤ 5 → mergeEntry held said ≤ 5
 unfolding mergeEntry
 merged-small held said h k = pick-ind (λ x. x ≤ 5) (rises held said) said held (λ _. k) (λ _. h)
 
@@ -164,7 +164,7 @@ site-valid own n s q =
 
 -- the states that records lead to
 
-state-small : (st : State) → codeOf st ≤ 5
+pub state-small : (st : State) → codeOf st ≤ 5
 unfolding codeOf
 state-small State·.Active = omega arith
 state-small State·.Prepared = omega arith
@@ -181,7 +181,7 @@ prepared-code Outcome·.None Group·.Abort p e = cc
 prepared-code Outcome·.Commit g p e = cc
 prepared-code Outcome·.Abort g p e = cc
 
-group-code :
+pub group-code :
     (k : Kind) (o : Outcome) (p : Bool) → o ≡ Outcome·.None →
     recordCode (groupRecord k) ≡ codeOf (stateBy o (groupOf k) p)
 unfolding stateBy codeOf recordCode groupOf
@@ -192,7 +192,7 @@ group-code abort Outcome·.Commit p e = cc
 group-code commit Outcome·.Abort p e = cc
 group-code abort Outcome·.Abort p e = cc
 
-outcome-code : (k : Kind) (g : Group) (p : Bool) → recordCode (outcomeRecord k) ≡ codeOf (stateBy (outcomeOf k) g p)
+pub outcome-code : (k : Kind) (g : Group) (p : Bool) → recordCode (outcomeRecord k) ≡ codeOf (stateBy (outcomeOf k) g p)
 unfolding stateBy codeOf recordCode outcomeOf
 outcome-code commit g p = refl
 outcome-code abort g p = refl

@@ -1,0 +1,3 @@
+pub mod Schedule
+pub mod Claims
+pub mod laws

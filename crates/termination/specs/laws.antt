@@ -1,0 +1,15 @@
+pub mod Codes
+pub mod Known
+pub mod Timeouts
+pub mod Answers
+pub mod Fine
+pub mod Calls
+pub mod Truths
+pub mod Courses
+pub mod Rows
+pub mod Visits
+pub mod Tours
+pub mod OneTurn
+pub mod Rounds
+pub mod Quorums
+pub mod Finish
