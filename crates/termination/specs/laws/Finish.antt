@@ -1,8 +1,9 @@
 -- The theorems: the three rounds finish.
-use Prim.Native.Nat.{ℕ, _+_, _-_, _*_, _≤_, _<_}
+use Prim.Native.Nat.{ℕ, zero, suc, _+_, _-_, _*_, _≤_, _<_}
 use mathlib.Core.Bool.{Bool, true, false}
 use mathlib.Core.List.{List, [], _++_}
 use mathlib.Core.Path.{_≡_, refl, ap, sym, subst, _∙_}
+use native.Mathlib.Nat.{mul-le-mul-right}
 use native.Mathlib.Omega.{arith}
 use lib.Dec.{ltb, leb}
 use lib.ListN.{length}
@@ -39,10 +40,10 @@ use Rattle.list.specs.laws.ListTheorems.{short-refused, by-run, list-news-is-lo
 use Rattle.quiet_run.specs.Claims.{AllAccepted, asksOf}
 use Rattle.termination.specs.Schedule.{Course, setOut, inTurn, rounds, threeRounds}
 use Rattle.termination.specs.Claims.{AllBack, Finishes, NewsFree, ListsFinish, ListNewsFree, CallsFinish}
-use Rattle.termination.specs.laws.Fine.{Fine, grows-then, codeAt}
+use Rattle.termination.specs.laws.Fine.{Fine, codeAt}
 use Rattle.termination.specs.laws.Timeouts.{codeIn}
 use Rattle.termination.specs.laws.Truths.{AllDecided, never-both}
-use Rattle.termination.specs.laws.Courses.{run-set-out, Going}
+use Rattle.termination.specs.laws.Courses.{run-set-out, Going, Leg, leg-none, leg-then, leg-most}
 use Rattle.termination.specs.laws.Rounds.{Led, ready-grows, ReadyTo, first-round, GroupedTo, second-round}
 use Rattle.termination.specs.laws.Quorums.{third-round}
 
@@ -148,21 +149,49 @@ module _ (o : World) (s : List ℕ) (fine : Fine o o s) (back : AllBack o) where
       third-round o s t₂ (two .going) ready (two .holds) more (omega (arith, back .free, one .leg .rows, two .leg .rows))
       (omega (arith, back .quorums))
 
-  finish : Finishes o s (threeRounds o s)
-  unfolding threeRounds rounds setOut
-  finish =
-      let end : Agreed o (t₃ .world) = agreed o (t₃ .world) (t₃ .store) (three .going .fine) (three .holds) more in
+  -- what holds after none of the rounds, one, two and three
+  Stage : ℕ → Course → Type 0
+  Stage zero u = Unit
+  Stage (suc zero) u = ReadyTo (o .n) u
+  Stage (suc (suc zero)) u = GroupedTo o (o .n) u
+  Stage (suc (suc (suc k))) u = AllDecided o (u .world)
+
+  abbrev After : ℕ → Type 0
+  After k = Led o s t₀ (rounds k t₀) (k * (o .n * (2 * o .n - 1))) (k * (o .n * o .n)) (Stage k)
+
+  so-far : (k : ℕ) {e r : ℕ} → e ≤ k * (o .n * (2 * o .n - 1)) → r ≤ k * (o .n * o .n) → Going o s (rounds k t₀) → Leg o t₀ (rounds k t₀) e r →
+      Stage k (rounds k t₀) → After k
+  so-far k few free going leg holds =
+      record { going = going; leg = leg-most t₀ (rounds k t₀) (k * (o .n * (2 * o .n - 1))) (k * (o .n * o .n)) few free leg; holds = holds }
+
+  after : (k : ℕ) → k ≤ 3 → After k
+  unfolding rounds Stage
+  after zero h = so-far 0 (omega arith) (omega arith) setting-out (leg-none o t₀) tt
+  after (suc zero) h = so-far 1 (omega arith) (omega arith) (one .going) (one .leg) (one .holds)
+  after (suc (suc zero)) h = so-far 2 (omega arith) (omega arith) (two .going) (leg-then t₀ t₁ t₂ (one .leg) (two .leg)) (two .holds)
+  after (suc (suc (suc zero))) h =
+      so-far 3 (omega arith) (omega arith) (three .going) (leg-then t₀ t₁ t₃ (one .leg) (leg-then t₁ t₂ t₃ (two .leg) (three .leg))) (three .holds)
+  after (suc (suc (suc (suc k)))) h = absurd (omega (arith, h))
+
+  -- rounds after which everybody has an outcome
+  finishes-by : (k : ℕ) → k ≤ 3 → (Stage k (rounds k t₀) → AllDecided o (rounds k t₀ .world)) → Finishes o s (rounds k t₀)
+  unfolding setOut
+  finishes-by k few decided =
+      let u : After k = after k few in
+      let end : Agreed o (rounds k t₀ .world) = agreed o (rounds k t₀ .world) (rounds k t₀ .store) (u .going .fine) (decided (u .holds)) more in
       record {
-        accepted = three .going .accepted;
-        events = omega (arith, one .leg .events, two .leg .events, three .leg .events);
-        rows = omega (arith, one .leg .rows, two .leg .rows, three .leg .rows);
+        accepted = u .going .accepted;
+        events = omega (arith, u .leg .events, mul-le-mul-right (o .n * (2 * o .n - 1)) few);
+        rows = omega (arith, u .leg .rows, mul-le-mul-right (o .n * o .n) few);
         outcome = end .outcome;
         everywhere = end .everywhere;
-        kept = λ j h some.
-            kept-outcome (siteOf o j) (siteOf (t₃ .world) j) some
-            (grows-then o (t₁ .world) (t₃ .world) (one .leg .grows) (grows-then (t₁ .world) (t₂ .world) (t₃ .world) (two .leg .grows) (three .leg .grows))
-            .codes j h .ends);
+        kept = λ j h some. kept-outcome (siteOf o j) (siteOf (rounds k t₀ .world) j) some (u .leg .grows .codes j h .ends);
       }
+
+  -- three are so many
+  finish : Finishes o s (threeRounds o s)
+  unfolding threeRounds Stage
+  finish = finishes-by _ (omega arith) (λ decided. decided)
 
 -- the world of zeros is not such a world
 never-zero : AllBack zeroWorld → ⊥
