@@ -1,11 +1,16 @@
-/* Quorum commitment player: the calls offered to C.
+/* Quorum commitment: the calls offered to C.
  *
- * Link with target/staticlib/libquorum.a (x86-64 Linux). include/quorum_read.h, beside this file, reads worlds, rows and results.
+ * Link with target/staticlib/libquorum.a (x86-64 Linux); for qc_step with libquorum_step.a beside it, which has that call and nothing else. A program may
+ * link both. Beside this file, include/quorum_read.h reads worlds, sites, rows and results, and include/quorum_step.h makes what qc_step takes.
  *
- * WHAT THIS IS. One world holds ALL sites of one competition, in one process, and events are played on it: a message arrives, a site has waited
- * long enough, crashes or comes back. The caller chooses the events; the library says what each does. No choice of events from a fresh world can end
- * in two outcomes, as long as world and store are handed back as the call before left them. It is not (yet) a single site's part in a networked
- * program: there is no call that takes one site and the messages of the others.
+ * WHAT THIS IS. There are two ways to use it:
+ * - A player of whole days. One world holds ALL sites of one competition, in one process, and events are played on it: a message arrives, a site has
+ *   waited long enough, crashes or comes back. The caller chooses the events; the library says what each does. No choice of events from a fresh world
+ *   can end in two outcomes, as long as world and store are handed back as the call before left them. All calls but one are for this.
+ * - A club's own server. A program holds ONE site, its club's, keeps that site's log on disk and exchanges rows with the other clubs' servers over a
+ *   network. qc_step makes its site's steps: it takes the site and what has happened, a row that has arrived among others, and gives the site after it,
+ *   the row to send, and what must be on disk before that is sent (see A CLUB'S OWN SERVER).
+ * The rules that a site goes by are the same in both.
  *
  * Of every call:
  * - It allocates nothing and always returns. No state is kept between calls, so any threads may call at once on different buffers.
@@ -14,8 +19,8 @@
  * - Numbers in buffers have their low byte first. A world is QC_WORLD_BYTES bytes, laid out as docs/LAYOUT.md says; a C program need only keep
  *   it and hand it back.
  * - The answer is QC_ACCEPTED, or the number of the first check that failed. They are made in the order 16, 17, 1 to 3, 2 again for a second-edition
- *   header that is cut, 21, 4 to 15, 18; last of all, for a delivery, 17 again (see NEWS). The two calls between lists and lines have an order of
- *   their own (see LINES), and so has qc_convert (see EDITIONS); qc_write_quiet has 17, 3, 4, 20.
+ *   header that is cut, 21, 4 to 15, 18; last of all, for a delivery in a world, 17 again (see NEWS). The two calls between lists and lines have an order
+ *   of their own (see LINES), and so has qc_convert (see EDITIONS); qc_write_quiet has 17, 3, 4, 20, and qc_step 17, 6 to 8, 10 to 14.
  *
  * A list is a header and then commands. There are two editions of the header; 130 as the first byte, which is no number of sites, begins the second:
  *     header      first edition, QC_HEADER_BYTES bytes: n, the number of sites; C, the commit quorum; A, the abort quorum; the willing sites as
@@ -36,7 +41,7 @@
  *     bytes 4 to 19  what its sender knows of each site, one code (enum qc_code) a site
  *
  * WHAT EACH COMMAND DOES. A site's state is its outcome if it has one, else its group, else prepared, else active. "Joins" writes the group record
- * with the codes as they are then; n, C and A are the list's. What a site knows is n codes, its own among them.
+ * with the codes as they are then; n, C and A are the list's, or the terms' of qc_step. What a site knows is n codes, its own among them.
  *
  *   START      site 0, active
  *                willing        writes prepare, becomes coordinator, sends PREPARE
@@ -73,7 +78,7 @@
  *   taken as any other's.
  * A competition's weights never change.
  *
- * There is room for QC_ROWS rows, and none is ever given back. Each TIMEOUT of a site that is not active spends one, even where nothing has
+ * A world has room for QC_ROWS rows, and none is ever given back. Each TIMEOUT of a site that is not active spends one, even where nothing has
  * arrived since the last; so 15 (QC_STORE_FULL) can end a competition undecided. A caller should let replies arrive before it lets a site time out, and
  * keep rows for the end (see WHEN EVERYONE IS BACK).
  *
@@ -98,6 +103,51 @@
  * - A site that stays down: 12 comes where it has its turn or a row is delivered to it. Without it the others may have a quorum, or may not.
  * - Turns in another order, fewer of them, or replies that are lost or late: there may be an outcome, or none yet.
  * examples/all_back.c plays a list and then does all of this.
+ *
+ * A CLUB'S OWN SERVER. Each call of qc_step is one step of one site. A server has for it:
+ *     terms       what never changes: n, C, A and the weights, this site's number, and whether it is willing. n, C, A and the weights must be the same at
+ *                 every site: each server hands in its own, and no call can see that another's differ. Make them with qc_make_terms
+ *     site        the site's record, as in a world; kept in memory, and handed back as the call before left it. Begin with qc_make_site
+ *     command     one byte as in a list, and no site after it. DELIVER is followed by the row that has arrived (qc_make_delivery)
+ *     row         gets the row to send: its QC_ROW_BYTES bytes as they are, to each of its destinations; or kind 0, and nothing is sent (qc_step_sends)
+ *     result      gets the records that the step has written, and its news
+ * And what it gives when:
+ *     START       once, at site 0: the competition begins. Elsewhere it is 14
+ *     DELIVER     a row has arrived
+ *     TIMEOUT     it has waited long enough, for a command or for replies. How long is the server's choice: let it differ from site to site, and grow
+ *                 where a TIMEOUT has brought nothing, so that sites do not lead beside each other for ever
+ *     RECOVER     its machine is back, and the site is made from its log
+ *     CRASH       never, for a machine that crashes calls nothing; it is there for programs that try out what a crash does
+ *
+ * What must be on disk. The log is three places of the site: the prepare record; the group record, with its codes; the outcome record. After each step
+ * that is accepted (one that is refused leaves row and result as they were):
+ *   1. If the result says that a record was written (qc_step_wrote), it is written to disk and forced (fsync; of a new file, its directory's entry too).
+ *   2. Only then the row is sent, if there is one. It may be sent again as often as the server likes.
+ * A step writes at most one record, so it is on disk whole or not at all. A machine that stops before 1 has not made the step; one that stops between the
+ * two has lost a row, and rows may be lost. One that sends first can break everything: a site sends the vote that it has prepared, and stops before its
+ * prepare record is on disk. The others count on it and commit; it comes back with an empty log and aborts.
+ *
+ * How a server comes back. Of what a site knows only the log survives: qc_make_site_of_log makes of its three places the site that CRASH leaves, and
+ * RECOVER brings that up. Force what RECOVER writes, as after any step. Three things to mind:
+ * - An empty log is not a new one. A site that has begun and has no record no longer knows what it was asked: it is made from its log as any other, and
+ *   RECOVER has it abort. Only a site that has never made a step begins with qc_make_site. So a server creates its log, and forces it, before the first.
+ * - A record that was cut off while it was written was not forced, so no row was sent that rests on it. Take it off before the next one is written.
+ * - A record that is whole may not have been forced either: force the log that was read before the first step.
+ *
+ * What the network may do. A row may be lost, arrive any number of times, late, and after rows that were sent later. It must never be made up or
+ * changed. The library asks of a row only that it has the form (10) and goes to this site (11); it cannot know who has sent it. Where others can write
+ * to the network, or bytes can be damaged, the server must find that out and drop such a row, and so a row of another competition.
+ *
+ * What is promised. Take n sites with the same n, C, A and weights that begin fresh, and any steps at them, in any order, where each row that is
+ * delivered is one that some site has sent before. Then over all records that the steps write:
+ * - There is at most one outcome, commit or abort.
+ * - A commit means that each of the n sites writes exactly one prepare record, and that all are willing.
+ * - No site writes a second group record or a second outcome record.
+ * It is not promised that there is an outcome:
+ * - Where the network loses everything, or cuts sites off, some may wait as long as it does. What they have written stays right.
+ * - C + A over W + 1: two groups can be stuck beside each other, even with everyone there (see WHEN EVERYONE IS BACK).
+ * - A site that stays down: the others may come to an outcome without it, or have to wait for it.
+ * examples/network.c runs five such servers, each a process with its log in a file, on a network that loses, repeats and delays; some are killed.
  *
  * LINES. A list can also be typed: a line for its header, then one line a command. Each line with the bytes that it stands for:
  *     sites 3 commit 2 abort 2 willing 7    03 02 02 07 00
@@ -134,10 +184,11 @@
 
 /* The major number goes up when a program may have to change, the minor one when something is added. Version 3: a world has its news (layout 2),
  * and the report's first line ends with it. 3.1 adds lists as lines, with 19 and 20. 3.2 adds the list of a quiet day. Version 4: a world
- * has weights (layout 3, 672 bytes), and a list may be of the second edition, with 21. 4.1 adds the call from one edition to the other, with 22. */
+ * has weights (layout 3, 672 bytes), and a list may be of the second edition, with 21. 4.1 adds the call from one edition to the other, with 22. 4.2 adds
+ * the step of a single site. */
 #define QC_VERSION_MAJOR 4
-#define QC_VERSION_MINOR 1
-#define QC_LAYOUT 3 /* of a world's bytes: its first byte */
+#define QC_VERSION_MINOR 2
+#define QC_LAYOUT 3 /* of a world's bytes and of terms: their first byte */
 
 #define QC_SITES 16              /* site records of a world, its weights, and codes of a row */
 #define QC_ROWS 1024             /* rows: at most */
@@ -151,17 +202,21 @@
 #define QC_TEXT_BYTES 196620     /* a list's text: at most; a buffer of as many always has room for it */
 #define QC_ROW_BYTES 20          /* a row */
 #define QC_WORLD_BYTES 672       /* a world: exactly */
+#define QC_TERMS_BYTES 32        /* the terms of a single site: exactly */
+#define QC_SITE_BYTES 40         /* a site: exactly */
 #define QC_STORE_BYTES 20480     /* a store of rows: at least */
 #define QC_REPORT_BYTES 1024     /* a report buffer: at least */
 #define QC_RESULT_BYTES 8        /* a result of the calls that play or report: exactly */
 #define QC_LINES_RESULT_BYTES 16 /* a result of the calls that write a list or its lines: exactly */
+#define QC_STEP_RESULT_BYTES 8   /* a result of qc_step: exactly */
 
 /* Every answer: its name, number and meaning. 1 is a list handed in, or, for qc_read_lines and qc_convert, one that would be written. 2 is a list
  * of under 5 bytes, whatever the first is, and, checked after 3, a second-edition header that is cut. 4 is C or A over W - h, or C + A under W + 1 (see
- * WEIGHTS). 17 is a world or result of another length than it must have, a world's bytes outside the layout, a world whose values do not fit together
- * (its quorums and weights among them: a weight is 0 exactly from n up) or whose news is over 491,520, for the report also an event count, place or
- * number out of its range, and, checked last, after 15, a delivery that would bring the news over 491,520. 19 is met by qc_read_lines alone, 20 by it,
- * qc_write_lines, qc_write_quiet and qc_convert, 21 by qc_play_list and qc_convert, 22 by qc_convert alone. */
+ * WEIGHTS). 14 is START while site 0 is not active, and for qc_step START at any other site too. 17 is a buffer whose length must be exact and is not, a
+ * world's bytes outside the layout, a world whose values do not fit together (its quorums and weights among them: a weight is 0 exactly from n up) or
+ * whose news is over 491,520, the same of terms and a site, for the report also an event count, place or number out of its range, and, checked last,
+ * after 15, a delivery in a world that would bring the news over 491,520. 19 is met by qc_read_lines alone, 20 by it, qc_write_lines, qc_write_quiet and
+ * qc_convert, 21 by qc_play_list and qc_convert, 22 by qc_convert alone. */
 #define QC_ANSWERS(answer)                                                                                      \
     answer(QC_ACCEPTED, 0, "accepted")                                                                          \
     answer(QC_LIST_LONG, 1, "the list is longer than 32,768 bytes")                                             \
@@ -174,14 +229,15 @@
     answer(QC_CUT_SHORT, 7, "the command's operands are cut short")                                             \
     answer(QC_NO_SITE, 8, "site number n or more")                                                              \
     answer(QC_NO_ROW, 9, "row number not below the row count")                                                  \
-    answer(QC_BAD_ROW, 10, "the row in the store is not a row: its kind, sender or a code is out of range")     \
+    answer(QC_BAD_ROW, 10, "the row is not a row: its kind, sender or a code is out of range")                  \
     answer(QC_NOT_SENT, 11, "the site is not among the row's destinations")                                     \
     answer(QC_SITE_DOWN, 12, "the site is down")                                                                \
     answer(QC_SITE_UP, 13, "RECOVER while the site is up")                                                      \
-    answer(QC_STARTED, 14, "START while site 0 is not active")                                                  \
+    answer(QC_STARTED, 14, "START while site 0 is not active, or at another site")                              \
     answer(QC_STORE_FULL, 15, "a row is to be added and 1,024 are there")                                       \
     answer(QC_STORE_SHORT, 16, "the store is shorter than 20,480 bytes")                                        \
-    answer(QC_BAD_WORLD, 17, "the world, the result or a report number is wrong, or news would pass 491,520")   \
+    answer(QC_BAD_WORLD, 17,                                                                                    \
+           "the world, the terms, the site, a length or a report number is wrong, or news would pass 491,520")  \
     answer(QC_REPORT_SHORT, 18, "the report buffer is shorter than 1,024 bytes")                                \
     answer(QC_BAD_LINE, 19, "a line is not in the form, or a number in it is past its range")                   \
     answer(QC_ROOM_SHORT, 20, "the buffer is shorter than what is to be written to it")                         \
@@ -305,6 +361,22 @@ uint32_t qc_write_quiet(size_t n, size_t commit, size_t abort,
 uint32_t qc_convert(const uint8_t *list, size_t list_length,
                     uint8_t *buffer, size_t buffer_length,
                     uint8_t *result, size_t result_length);
+
+/* Make one step of one site (see A CLUB'S OWN SERVER above).
+ * terms:   QC_TERMS_BYTES bytes. 0 is QC_LAYOUT; 1 is n; 2 and 3 are C; 4 and 5 are A; 6 is this site's number; 7 is 1 if it is willing, else 0; 8 to 15
+ *          are 0; 16 to 31 are the weights, 1 to 255 below n and 0 from n up.
+ * site:    QC_SITE_BYTES bytes, as a site's in a world: the site before; gets the site after. A fresh one has 1 as its first byte and 0 elsewhere.
+ * command: QC_START, QC_TIMEOUT, QC_CRASH or QC_RECOVER; or QC_DELIVER and then a row's QC_ROW_BYTES bytes. What follows it is not read.
+ * row:     QC_ROW_BYTES bytes, may hold anything; gets the row that the step sends, or zeros where it sends none.
+ * result:  QC_STEP_RESULT_BYTES bytes, may hold anything; gets the records that the step writes: byte 0 the prepare record, 1 or 0; byte 1 the group
+ *          record and byte 2 the outcome record, enum qc_record. Byte 3 gets 0, bytes 4 to 7 the news: how many codes the site takes from a row, 32 bits.
+ * Gives 0 if accepted; else 17 for terms and site, 6 or 7 for the command, 8 for this site's number, 10 or 11 for the row, 12 to 14, and no buffer is
+ * touched. There is no 9, 15 or 16, and news has no limit here. */
+uint32_t qc_step(const uint8_t *terms, size_t terms_length,
+                 uint8_t *site, size_t site_length,
+                 const uint8_t *command, size_t command_length,
+                 uint8_t *row, size_t row_length,
+                 uint8_t *result, size_t result_length);
 
 #ifdef __cplusplus
 }

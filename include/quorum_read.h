@@ -1,7 +1,7 @@
-/* Readers for what quorum.h hands over: worlds, rows and results, and an answer in words.
+/* Readers for what quorum.h hands over: worlds, single sites, rows and results, and an answer in words.
  *
- * They check nothing. A world is one that a call has left (QC_WORLD_BYTES bytes), a site is below QC_SITES, a row below the world's row count, and a
- * result is of an accepted call, or of qc_play_list, qc_write_lines, qc_read_lines, qc_write_quiet or qc_convert unless the answer is 17.
+ * They check nothing. A world is one that a call has left (QC_WORLD_BYTES bytes), a site's number is below QC_SITES, a row below the world's row count,
+ * and a result is of an accepted call, or of qc_play_list, qc_write_lines, qc_read_lines, qc_write_quiet or qc_convert unless the answer is 17.
  * docs/LAYOUT.md has the bytes.
  */
 #ifndef QUORUM_READ_H
@@ -64,7 +64,43 @@ static inline uint64_t qc_lines_place(const uint8_t *result)
     return qc_number64(result + 8);
 }
 
-/* A world's sizes. */
+/* Of qc_step: the prepare record, 1 if the step has written it, else 0. */
+static inline unsigned qc_step_prepare(const uint8_t *result)
+{
+    return result[0];
+}
+
+/* Of qc_step: the group record that the step has written, enum qc_record. */
+static inline unsigned qc_step_group(const uint8_t *result)
+{
+    return result[1];
+}
+
+/* Of qc_step: the outcome record that the step has written, enum qc_record. */
+static inline unsigned qc_step_outcome(const uint8_t *result)
+{
+    return result[2];
+}
+
+/* Of qc_step: has the step written a record? If so it must be on disk before the step's row is sent (quorum.h, A CLUB'S OWN SERVER). */
+static inline int qc_step_wrote(const uint8_t *result)
+{
+    return qc_step_prepare(result) != 0 || qc_step_group(result) != QC_NO_RECORD || qc_step_outcome(result) != QC_NO_RECORD;
+}
+
+/* Of qc_step: how many codes the site has taken from the row that was delivered. */
+static inline uint32_t qc_step_news(const uint8_t *result)
+{
+    return qc_number32(result + 4);
+}
+
+/* Is the row that qc_step has left one to be sent? */
+static inline int qc_step_sends(const uint8_t *row)
+{
+    return row[0] != 0;
+}
+
+/* Sizes: of a world; the first three, and weights, also of the terms of a single site. */
 
 static inline unsigned qc_site_count(const uint8_t *world)
 {
@@ -81,7 +117,7 @@ static inline unsigned qc_abort_quorum(const uint8_t *world)
     return qc_number16(world + 4);
 }
 
-/* The willing sites, bit i for site i. */
+/* Of a world: the willing sites, bit i for site i. */
 static inline unsigned qc_willing(const uint8_t *world)
 {
     return qc_number16(world + 6);
@@ -93,81 +129,136 @@ static inline unsigned qc_weight(const uint8_t *world, unsigned site)
     return world[16 + site];
 }
 
-/* The rows sent so far. */
+/* Of terms: the site's number. */
+static inline unsigned qc_terms_own(const uint8_t *terms)
+{
+    return terms[6];
+}
+
+/* Of terms: 1 if the site is willing, else 0. */
+static inline unsigned qc_terms_willing(const uint8_t *terms)
+{
+    return terms[7];
+}
+
+/* Of a world: the rows sent so far. */
 static inline unsigned qc_row_count(const uint8_t *world)
 {
     return qc_number16(world + 8);
 }
 
-/* The news: how many codes sites have taken from rows, over all accepted deliveries. A delivery that does not raise it was idle (quorum.h, NEWS). */
+/* Of a world: the news, which is how many codes sites have taken from rows, over all accepted deliveries. A delivery that does not raise it was idle
+ * (quorum.h, NEWS). */
 static inline uint32_t qc_news(const uint8_t *world)
 {
     return qc_number32(world + 10);
 }
 
-/* A world's sites. */
-
-/* The first byte of a site's record. */
-static inline const uint8_t *qc_site(const uint8_t *world, unsigned site)
-{
-    return world + 32 + 40 * site;
-}
+/* A single site, as qc_step takes it and a world holds it. Its state is what it knows of itself: qc_own_code of its own number. */
 
 /* 1 up, 0 down. */
-static inline unsigned qc_site_up(const uint8_t *world, unsigned site)
+static inline unsigned qc_own_up(const uint8_t *site)
 {
-    return qc_site(world, site)[0];
+    return site[0];
 }
 
 /* enum qc_role. */
-static inline unsigned qc_site_role(const uint8_t *world, unsigned site)
+static inline unsigned qc_own_role(const uint8_t *site)
 {
-    return qc_site(world, site)[1];
+    return site[1];
 }
 
 /* The log's prepare record: 1 written, 0 not. */
-static inline unsigned qc_log_prepare(const uint8_t *world, unsigned site)
+static inline unsigned qc_own_prepare(const uint8_t *site)
 {
-    return qc_site(world, site)[2];
+    return site[2];
 }
 
 /* The log's group record: enum qc_record. */
-static inline unsigned qc_log_group(const uint8_t *world, unsigned site)
+static inline unsigned qc_own_group(const uint8_t *site)
 {
-    return qc_site(world, site)[3];
+    return site[3];
 }
 
 /* The log's outcome record: enum qc_record. */
-static inline unsigned qc_log_outcome(const uint8_t *world, unsigned site)
+static inline unsigned qc_own_outcome(const uint8_t *site)
 {
-    return qc_site(world, site)[4];
-}
-
-/* What the site knew of another when it joined its group; 0 where it has joined none. */
-static inline unsigned qc_log_group_code(const uint8_t *world, unsigned site, unsigned of)
-{
-    return qc_site(world, site)[24 + of];
+    return site[4];
 }
 
 /* What the site knows of another: enum qc_code. */
-static inline unsigned qc_site_code(const uint8_t *world, unsigned site, unsigned of)
+static inline unsigned qc_own_code(const uint8_t *site, unsigned of)
 {
-    return qc_site(world, site)[8 + of];
+    return site[8 + of];
 }
 
-/* The site's state: enum qc_code. Its own code says it. */
+/* What the site knew of another when it joined its group; 0 where it has joined none. */
+static inline unsigned qc_own_group_code(const uint8_t *site, unsigned of)
+{
+    return site[24 + of];
+}
+
+/* Has the site an outcome? */
+static inline int qc_own_terminated(const uint8_t *site)
+{
+    return qc_own_outcome(site) != QC_NO_RECORD;
+}
+
+/* A world's sites: the same of the site with this number. */
+
+/* The first byte of its record. */
+static inline const uint8_t *qc_site(const uint8_t *world, unsigned site)
+{
+    return world + 32 + (size_t)QC_SITE_BYTES * site;
+}
+
+static inline unsigned qc_site_up(const uint8_t *world, unsigned site)
+{
+    return qc_own_up(qc_site(world, site));
+}
+
+static inline unsigned qc_site_role(const uint8_t *world, unsigned site)
+{
+    return qc_own_role(qc_site(world, site));
+}
+
+static inline unsigned qc_log_prepare(const uint8_t *world, unsigned site)
+{
+    return qc_own_prepare(qc_site(world, site));
+}
+
+static inline unsigned qc_log_group(const uint8_t *world, unsigned site)
+{
+    return qc_own_group(qc_site(world, site));
+}
+
+static inline unsigned qc_log_outcome(const uint8_t *world, unsigned site)
+{
+    return qc_own_outcome(qc_site(world, site));
+}
+
+static inline unsigned qc_log_group_code(const uint8_t *world, unsigned site, unsigned of)
+{
+    return qc_own_group_code(qc_site(world, site), of);
+}
+
+static inline unsigned qc_site_code(const uint8_t *world, unsigned site, unsigned of)
+{
+    return qc_own_code(qc_site(world, site), of);
+}
+
+/* Its state: enum qc_code. */
 static inline unsigned qc_site_state(const uint8_t *world, unsigned site)
 {
     return qc_site_code(world, site, site);
 }
 
-/* Has the site an outcome? */
 static inline int qc_site_terminated(const uint8_t *world, unsigned site)
 {
-    return qc_log_outcome(world, site) != QC_NO_RECORD;
+    return qc_own_terminated(qc_site(world, site));
 }
 
-/* Rows of a store. */
+/* Rows of a store. The row that qc_step leaves, or that has arrived, is row 0 of a store of one row. */
 
 /* The first byte of a row. */
 static inline const uint8_t *qc_row(const uint8_t *store, unsigned row)

@@ -1,5 +1,5 @@
-//! Says where the proved library is: in the folder that QUORUM_LIB names, else
-//! in the repository's target/staticlib. Only the bench and the comparison
+//! Says where the proved library is, its two archives: in the folder that QUORUM_LIB
+//! names, else in the repository's target/staticlib. Only the bench and the comparison
 //! link it.
 
 use std::env;
@@ -10,9 +10,8 @@ fn main() {
     let named = env::var_os("QUORUM_LIB").unwrap_or("../target/staticlib".into());
     let folder = package.join(Path::new(&named));
     println!("cargo::rerun-if-env-changed=QUORUM_LIB");
-    println!(
-        "cargo::rerun-if-changed={}",
-        folder.join("libquorum.a").display()
-    );
+    for archive in ["libquorum.a", "libquorum_step.a"] {
+        println!("cargo::rerun-if-changed={}", folder.join(archive).display());
+    }
     println!("cargo::rustc-link-search=native={}", folder.display());
 }

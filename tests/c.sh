@@ -1,7 +1,7 @@
 #!/usr/bin/env bash
-# The library from C: the headers, their readers, the cases around every number, the quiet day, the rounds when everyone is back and the examples, built
-# strictly and run.
-# Wants target/staticlib/libquorum.a.
+# The library from C: the headers, their readers, the cases around every number, steps of single sites, the quiet day, the rounds when everyone is back
+# and the examples, built strictly and run. The example network is in network.sh.
+# Wants target/staticlib/libquorum.a and libquorum_step.a.
 set -euo pipefail
 cd "$(dirname "$0")/.."
 strict=(-Wall -Wextra -Werror -pedantic -Iinclude)
@@ -16,7 +16,7 @@ fail() {
 build() { # NAME FILES: target/NAME from the C files
     local name=$1
     shift
-    cc -std=c99 -O2 "${strict[@]}" "$@" target/staticlib/libquorum.a -o "target/$name"
+    cc -std=c99 -O2 "${strict[@]}" "$@" target/staticlib/lib{quorum,quorum_step}.a -o "target/$name"
 }
 
 status() { # WANTED COMMAND ..: its exit status; what it prints is in $work/got
@@ -38,12 +38,16 @@ for header in include/*.h; do
     cc -std=c99 "${strict[@]}" -fsyntax-only -x c "$header"
     c++ "${strict[@]}" -fsyntax-only -x c++ "$header"
 done
-readers=(tests/readers.c tests/line_readers.c)
+readers=(tests/readers.c tests/line_readers.c tests/step_readers.c)
 c++ "${strict[@]}" -fsyntax-only -x c++ "${readers[@]}"
 build readers "${readers[@]}"
 target/readers
 build cases tests/cases/*.c
 target/cases
+build step_worlds tests/step_worlds.c tests/shared.c
+target/step_worlds
+build step_histories tests/step_histories.c tests/shared.c
+target/step_histories
 build quiet_day tests/quiet_day.c tests/shared.c
 target/quiet_day
 build all_back_worlds tests/all_back*.c tests/shared.c

@@ -1,5 +1,6 @@
 /* Plays lists through the library and holds what the header's readers say to what documents 01 and 02 give, worked out by hand.
- * Exits 0 if all is as it should be, 1 after the first difference. Also checked as C++. Lists as lines, and in the other edition, are in line_readers.c.
+ * Exits 0 if all is as it should be, 1 after the first difference. Also checked as C++. Lists as lines, and in the other edition, are in line_readers.c,
+ * single sites in step_readers.c.
  */
 #include <stdio.h>
 #include <stdlib.h>
@@ -22,7 +23,7 @@ void check(const char *where, uint64_t got, uint64_t wanted)
     }
 }
 
-static void check_text(const char *where, const char *got, const char *wanted)
+void check_text(const char *where, const char *got, const char *wanted)
 {
     checks++;
     if (strcmp(got, wanted) != 0) {
@@ -30,8 +31,6 @@ static void check_text(const char *where, const char *got, const char *wanted)
         exit(1);
     }
 }
-
-#define CHECK_TEXT(got, wanted) check_text(HERE, (got), (wanted))
 
 /* Commands, for lists below. */
 #define HEADER(n, c, a, low, high) n, c, a, low, high
@@ -385,7 +384,9 @@ static void numbers(void)
     CHECK(qc_weight(head, 0), 16);
     CHECK(qc_weight(head, 15), 31);
     CHECK(qc_site_up(head, 0), 1);
-    CHECK(QC_WORLD_BYTES, 32 + 40 * QC_SITES);
+    CHECK(QC_WORLD_BYTES, QC_TERMS_BYTES + QC_SITE_BYTES * QC_SITES);
+    CHECK(QC_TERMS_BYTES, 32);
+    CHECK(QC_SITE_BYTES, 40);
     CHECK(QC_SECOND_HEADER_BYTES(QC_SITES), 24);
     CHECK(QC_SECOND_EDITION, 130);
     CHECK(QC_WEIGHT, UINT8_MAX);
@@ -402,6 +403,7 @@ static void texts(void)
     CHECK_TEXT(qc_answer_text(UINT32_MAX), none);
     CHECK_TEXT(qc_answer_text(QC_ACCEPTED), "accepted");
     CHECK_TEXT(qc_answer_text(12), "the site is down");
+    CHECK_TEXT(qc_answer_text(QC_STARTED), "START while site 0 is not active, or at another site");
     CHECK_TEXT(qc_answer_text(19), "a line is not in the form, or a number in it is past its range");
     CHECK_TEXT(qc_answer_text(20), "the buffer is shorter than what is to be written to it");
     CHECK_TEXT(qc_answer_text(21), "a site's weight is 0");
@@ -429,6 +431,7 @@ int main(void)
     one_at_a_time();
     reports();
     line_readers();
+    step_readers();
     numbers();
     texts();
     printf("readers: %u checks of the C header's readers against the worked days\n", checks);

@@ -12,9 +12,13 @@
 /* What was got, and what it must be. The first difference ends the program. */
 void check(const char *where, uint64_t got, uint64_t wanted);
 
-#define CHECK(got, wanted) check(HERE, (got), (wanted))
+void check_text(const char *where, const char *got, const char *wanted);
 
-/* Those of lists as lines, and of lists in the other edition. */
+#define CHECK(got, wanted) check(HERE, (got), (wanted))
+#define CHECK_TEXT(got, wanted) check_text(HERE, (got), (wanted))
+
+/* Those of lists as lines, and of lists in the other edition; those of a single site. */
 void line_readers(void);
+void step_readers(void);
 
 #endif

@@ -5,6 +5,7 @@
 
 use model::calls::Calls;
 use model::quiet::Asked;
+use model::step_call::Steps;
 use model::{Ask, Numbers};
 
 #[link(name = "quorum", kind = "static")]
@@ -77,6 +78,22 @@ extern "C" {
         list_len: usize,
         buffer: *mut u8,
         buffer_len: usize,
+        result: *mut u8,
+        result_len: usize,
+    ) -> u32;
+}
+
+#[link(name = "quorum_step", kind = "static")]
+extern "C" {
+    fn qc_step(
+        terms: *const u8,
+        terms_len: usize,
+        site: *mut u8,
+        site_len: usize,
+        command: *const u8,
+        command_len: usize,
+        row: *mut u8,
+        row_len: usize,
         result: *mut u8,
         result_len: usize,
     ) -> u32;
@@ -189,6 +206,33 @@ impl Calls for Library {
                 list.len(),
                 buffer.as_mut_ptr(),
                 buffer.len(),
+                result.as_mut_ptr(),
+                result.len(),
+            )
+        }
+    }
+}
+
+impl Steps for Library {
+    fn step(
+        &self,
+        terms: &[u8],
+        site: &mut [u8],
+        command: &[u8],
+        row: &mut [u8],
+        result: &mut [u8],
+    ) -> u32 {
+        // SAFETY: as above.
+        unsafe {
+            qc_step(
+                terms.as_ptr(),
+                terms.len(),
+                site.as_mut_ptr(),
+                site.len(),
+                command.as_ptr(),
+                command.len(),
+                row.as_mut_ptr(),
+                row.len(),
                 result.as_mut_ptr(),
                 result.len(),
             )

@@ -1,5 +1,5 @@
-//! The seven calls offered to C, on bytes, as the model answers them:
-//! docs/LAYOUT.md.
+//! The seven calls offered to C for lists and worlds, on bytes, as the model answers them:
+//! docs/LAYOUT.md. The step of a single site is in step_call.rs.
 
 use crate::command::Ask;
 use crate::convert::convert;

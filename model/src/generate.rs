@@ -4,14 +4,18 @@ mod call;
 mod editions;
 mod guide;
 mod header;
+mod history;
 mod lines;
 mod rng;
+mod single;
 mod spoil;
 mod text;
 mod unplayed;
 
 pub use call::Call;
+pub use history::Course;
 pub use rng::Rng;
+pub use single::StepCall;
 
 use crate::header::{Edition, Header, HEADER_BYTES, SECOND};
 use crate::quiet::{self, Replies};
@@ -170,6 +174,12 @@ impl Generator {
     /// damage to the world or the store.
     pub fn next_call(&mut self) -> Call {
         call::any(&mut self.rng)
+    }
+
+    /// A step of a single site, at times with damage to what it reads or with lengths that
+    /// are not the right ones.
+    pub fn next_step_call(&mut self) -> StepCall {
+        single::any(&mut self.rng)
     }
 
     /// How long a guided list may get.

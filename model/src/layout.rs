@@ -57,7 +57,16 @@ pub fn update(bytes: &mut [u8], world: &World) {
     }
 }
 
-fn encode_site(bytes: &mut [u8], site: &Site) {
+/// A site's bytes.
+pub fn site_bytes(site: &Site) -> [u8; SITE_BYTES] {
+    let mut bytes = [0; SITE_BYTES];
+    encode_site(&mut bytes, site);
+    bytes
+}
+
+/// Writes a site over the bytes of an earlier one.
+#[inline]
+pub fn encode_site(bytes: &mut [u8], site: &Site) {
     let group_vector = site.log.group.map_or(Vector::ZEROS, |record| record.vector);
     bytes[0] = site.up.into();
     bytes[1] = site.is_coordinator().into();
@@ -96,8 +105,10 @@ pub fn decode(bytes: &[u8]) -> Result<World, u8> {
     Ok(world)
 }
 
-/// None for a code above 5, or a group's vector without a group.
-fn decode_site(bytes: &[u8]) -> Option<Site> {
+/// The site that bytes inside the layout say. None for a code above 5, or a group's
+/// vector without a group.
+#[inline]
+pub fn decode_site(bytes: &[u8]) -> Option<Site> {
     let group_vector = Vector::read(&bytes[GROUP_CODES])?;
     let group = side(bytes[3]).map(|side| GroupRecord {
         side,
@@ -131,7 +142,8 @@ fn is_inside(bytes: &[u8]) -> bool {
 }
 
 /// Three flags, two sides, three bytes of 0, and any codes.
-fn is_site_inside(bytes: &[u8]) -> bool {
+#[inline]
+pub fn is_site_inside(bytes: &[u8]) -> bool {
     bytes[..3].iter().all(|&flag| flag <= 1)
         && bytes[3..5].iter().all(|&side| side <= 2)
         && bytes[5..8].iter().all(|&byte| byte == 0)
@@ -142,15 +154,15 @@ fn sites(bytes: &[u8]) -> impl Iterator<Item = &[u8]> {
     bytes[SITES_AT..].chunks_exact(SITE_BYTES)
 }
 
-fn word(number: usize) -> [u8; 2] {
+pub(crate) fn word(number: usize) -> [u8; 2] {
     (number.min(65_535) as u16).to_le_bytes()
 }
 
-fn word_at(bytes: &[u8], at: usize) -> u16 {
+pub(crate) fn word_at(bytes: &[u8], at: usize) -> u16 {
     u16::from_le_bytes([bytes[at], bytes[at + 1]])
 }
 
-fn double_word(number: usize) -> [u8; 4] {
+pub(crate) fn double_word(number: usize) -> [u8; 4] {
     let fits = u32::try_from(number).unwrap_or(u32::MAX);
     fits.to_le_bytes()
 }
@@ -159,7 +171,7 @@ fn double_word_at(bytes: &[u8], at: usize) -> u32 {
     u32::from(word_at(bytes, at + 2)) << 16 | u32::from(word_at(bytes, at))
 }
 
-fn side_byte(side: Option<Side>) -> u8 {
+pub(crate) fn side_byte(side: Option<Side>) -> u8 {
     match side {
         None => 0,
         Some(Side::Commit) => 1,
@@ -167,7 +179,7 @@ fn side_byte(side: Option<Side>) -> u8 {
     }
 }
 
-fn side(byte: u8) -> Option<Side> {
+pub(crate) fn side(byte: u8) -> Option<Side> {
     match byte {
         1 => Some(Side::Commit),
         2 => Some(Side::Abort),

@@ -114,11 +114,7 @@ pub fn play_command(world: &mut World, store: &mut [u8], ask: Ask) -> Result<usi
     if let Some(row) = &told {
         merge(world, me, row)?;
     }
-    let mut actor = Actor {
-        sizes: &world.sizes,
-        me,
-        site: &mut world.sites[me],
-    };
+    let mut actor = Actor::new(&world.sizes, me, &mut world.sites[me]);
     if let Some(row) = actor.act(command, told.as_ref()) {
         row.write(store, world.row_count);
         world.row_count += 1;

@@ -1,6 +1,7 @@
 //! The site rules: what each event does to one site, and the row it sends.
 
 use crate::command::Command;
+use crate::record::Written;
 use crate::row::{Kind, Row};
 use crate::site::{GroupRecord, Log, Role, Site};
 use crate::sizes::{everyone, Sizes};
@@ -12,9 +13,20 @@ pub struct Actor<'a> {
     pub sizes: &'a Sizes,
     pub me: usize,
     pub site: &'a mut Site,
+    /// What its rules have written so far.
+    pub written: Written,
 }
 
-impl Actor<'_> {
+impl<'a> Actor<'a> {
+    pub fn new(sizes: &'a Sizes, me: usize, site: &'a mut Site) -> Actor<'a> {
+        Actor {
+            sizes,
+            me,
+            site,
+            written: Written::default(),
+        }
+    }
+
     /// What a command does here, with the row it delivers if it does; that row
     /// is merged already.
     pub fn act(&mut self, command: Command, told: Option<&Row>) -> Option<Row> {
@@ -138,6 +150,7 @@ impl Actor<'_> {
     /// Writes the prepare record.
     fn prepare(&mut self) {
         self.site.log.prepare = true;
+        self.written.prepare = true;
         self.show_state();
     }
 
@@ -148,11 +161,13 @@ impl Actor<'_> {
             side,
             vector: self.site.vector,
         });
+        self.written.group = Some(side);
     }
 
     /// Writes the outcome record.
     fn end(&mut self, side: Side) {
         self.site.log.outcome = Some(side);
+        self.written.outcome = Some(side);
         self.show_state();
     }
 

@@ -79,11 +79,7 @@ impl Delivery {
         let sites = order.iter().copied();
         let news = site.vector.merge_in(&self.row.vector, sites);
         let merged = site.vector;
-        let mut actor = Actor {
-            sizes: &self.sizes,
-            me: self.me,
-            site: &mut site,
-        };
+        let mut actor = Actor::new(&self.sizes, self.me, &mut site);
         let sent = actor.act(Command::deliver(0, self.me), Some(&self.row));
         End {
             merged,

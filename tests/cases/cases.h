@@ -1,6 +1,6 @@
-/* Cases just inside and just outside of every number, of merging, of weights and of editions, as tables: what the tables share.
+/* Cases just inside and just outside of every number, of merging, of weights, of editions and of single sites, as tables: what the tables share.
  *
- * What a case must give is worked out by hand from documents 01 and 02, and it is played through the C functions. A refused command or report must
+ * What a case must give is worked out by hand from documents 01 and 02, and it is played through the C functions. A refused command, report or step must
  * leave every buffer as it was, and refused lines and conversions their buffer. A difference is told with the case's name, and ends the program.
  */
 #ifndef CASES_H
@@ -27,6 +27,8 @@ void timeout_cases(void);
 void convert_cases(void);
 void bad_convert_cases(void);
 void converted_cases(void);
+void step_refusal_cases(void);
+void step_cases(void);
 
 /* The case that is played from here on; and what was got of it. */
 void begin(const char *name);
@@ -91,6 +93,7 @@ struct change {
 #define ALL_ZERO {1, QC_WORLD_BYTES - 1, 0}
 
 void make_world(uint8_t *world, const struct change *changes);
+void make_changes(uint8_t *bytes, const struct change *changes);
 
 /* One command of a list; for one that is accepted, the place after it. */
 struct command {

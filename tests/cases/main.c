@@ -22,16 +22,21 @@ void expect(const char *what, uint64_t got, uint64_t wanted)
     }
 }
 
+void make_changes(uint8_t *bytes, const struct change *changes)
+{
+    unsigned i, byte;
+    for (i = 0; i < CHANGES; i++)
+        for (byte = 0; byte < changes[i].bytes; byte++)
+            bytes[changes[i].at + byte] = (uint8_t)(byte < 4 ? changes[i].value >> 8 * byte : 0);
+}
+
 void make_world(uint8_t *world, const struct change *changes)
 {
     static const uint8_t fresh[] = {3, 2, 2, 7, 0};
     static uint8_t store[QC_STORE_BYTES];
     uint8_t result[QC_RESULT_BYTES];
-    unsigned i, byte;
     expect("a fresh world", qc_play_list(fresh, sizeof fresh, store, sizeof store, world, QC_WORLD_BYTES, result, sizeof result), 0);
-    for (i = 0; i < CHANGES; i++)
-        for (byte = 0; byte < changes[i].bytes; byte++)
-            world[changes[i].at + byte] = (uint8_t)(byte < 4 ? changes[i].value >> 8 * byte : 0);
+    make_changes(world, changes);
 }
 
 static struct {
@@ -81,6 +86,8 @@ int main(void)
     convert_cases();
     bad_convert_cases();
     converted_cases();
-    printf("cases: %u cases, around the numbers 1 to 22, of merging, of weights and of editions\n", cases);
+    step_refusal_cases();
+    step_cases();
+    printf("cases: %u cases, around the numbers 1 to 22, of merging, of weights, of editions and of single sites\n", cases);
     return 0;
 }

@@ -70,7 +70,7 @@ fn put_flags(bytes: &mut [u8], at: usize, site: Site)
     put_number(bytes, at + 5, 3, 0);
 }
 
-fn put_site(bytes: &mut [u8], at: usize, site: Site)
+pub fn put_site(bytes: &mut [u8], at: usize, site: Site)
     requires { ⌜ at + 40 ≤ length (now bytes) ⌝ }
     ensures { λ _. ⌜ now (bytes .exit) ≡ putSite (now (bytes .entry)) at site ⌝ }
 {

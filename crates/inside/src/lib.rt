@@ -20,7 +20,7 @@ fn most_through(before: bool, byte: u8, limit: u8) -> bool
 }
 
 // So many bytes from a place on are at most the limit.
-fn at_most(bytes: &[u8], at: usize, count: usize, limit: u8) -> bool
+pub fn at_most(bytes: &[u8], at: usize, count: usize, limit: u8) -> bool
     requires { ⌜ at + count ≤ length (now bytes) ⌝ }
     ensures { λ r. ⌜ r ≡ atMost count (now (bytes .entry)) at limit ⌝ }
 {
@@ -33,7 +33,7 @@ fn at_most(bytes: &[u8], at: usize, count: usize, limit: u8) -> bool
     holds
 }
 
-fn site_in_layout(bytes: &[u8], at: usize) -> bool
+pub fn site_in_layout(bytes: &[u8], at: usize) -> bool
     requires { ⌜ at + 40 ≤ length (now bytes) ⌝ }
     ensures { λ r. ⌜ r ≡ siteInLayout (now (bytes .entry)) at ⌝ }
 {

@@ -15,7 +15,8 @@ use Rattle.world.specs.declared.World.{World}
 use Rattle.world.specs.Sizes.{storeBytes}
 use Rattle.header.specs.Headers.{headerOf, headerLength, headerNumber, headerWorld}
 use Rattle.play.specs.Run.{Ask, Ran, run, callOf}
-use Rattle.safety.specs.Claims.{Safe, Delivered}
+use Rattle.history.specs.Safe.{Safe}
+use Rattle.safety.specs.Claims.{Delivered}
 use Rattle.list.specs.Play.{Play, playList, askAt}
 
 -- each call is of the list itself

@@ -19,7 +19,8 @@ use Rattle.world.specs.Sizes.{storeBytes, sizesNumber}
 use Rattle.world.specs.Worlds.{freshWorld, siteOf}
 use Rattle.header.specs.Headers.{headerOf, headerLength, headerNumber}
 use Rattle.play.specs.Run.{Ask, run, callOf}
-use Rattle.safety.specs.Claims.{writtenAt, freshRun}
+use Rattle.history.specs.Safe.{writtenAt}
+use Rattle.safety.specs.Claims.{freshRun}
 use Rattle.list.specs.Play.{playList}
 use Rattle.list.specs.Claims.{listRecords}
 use Rattle.spelling.specs.Spelling.{commandBytes}

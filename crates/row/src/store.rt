@@ -1,8 +1,8 @@
-// A row's twenty bytes in the store.
+// A row's twenty bytes, at any place and in the store.
 ghost use mathlib.Core.Path.{_≡_};
 ghost use Prim.Native.Nat.{_+_, _<_, _≤_};
 ghost use lib.ListN.{length};
-ghost use Rattle.row.specs.Rows.{noRow, putHead, putRow, getRow, rowPlace};
+ghost use Rattle.row.specs.Rows.{noRow, putHead, putRowAt, putRow, rowAt, getRow, rowPlace};
 use crate::Row;
 use code_bytes::get_codes;
 use code_bytes::put_codes;
@@ -37,15 +37,36 @@ fn put_head(store: &mut [u8], at: usize, row: Row)
     store[at + 3] = (row.destinations / 256 % 256) as u8;
 }
 
+// The row written at a place.
+pub fn put_row_at(bytes: &mut [u8], at: usize, row: Row)
+    requires { ⌜ at + 20 ≤ length (now bytes) ⌝ }
+    ensures { λ _. ⌜ now (bytes .exit) ≡ putRowAt (now (bytes .entry)) at row ⌝ }
+{
+    put_head(bytes, at, row);
+    let codes = row.codes;
+    put_codes(bytes, at + 4, codes);
+}
+
+// The row that lies at a place.
+pub fn row_at(bytes: &[u8], at: usize) -> Row
+    requires { ⌜ at + 20 ≤ length (now bytes) ⌝ }
+    ensures { λ r. ⌜ r ≡ rowAt (now (bytes .entry)) at ⌝ }
+{
+    let codes = get_codes(bytes, at + 4);
+    Row {
+        kind: bytes[at],
+        sender: wide(bytes[at + 1]),
+        destinations: wide(bytes[at + 2]) + 256 * wide(bytes[at + 3]),
+        codes,
+    }
+}
+
 // The row written as row k.
 pub fn put_row(store: &mut [u8], k: usize, row: Row)
     requires { ⌜ (k < 1024) × (20480 ≤ length (now store)) ⌝ }
     ensures { λ _. ⌜ now (store .exit) ≡ putRow (now (store .entry)) k row ⌝ }
 {
-    let at = row_place(k);
-    put_head(store, at, row);
-    let codes = row.codes;
-    put_codes(store, at + 4, codes);
+    put_row_at(store, row_place(k), row);
 }
 
 // Row k of the store.
@@ -53,12 +74,5 @@ pub fn get_row(store: &[u8], k: usize) -> Row
     requires { ⌜ (k < 1024) × (20480 ≤ length (now store)) ⌝ }
     ensures { λ r. ⌜ r ≡ getRow (now (store .entry)) k ⌝ }
 {
-    let at = row_place(k);
-    let codes = get_codes(store, at + 4);
-    Row {
-        kind: store[at],
-        sender: wide(store[at + 1]),
-        destinations: wide(store[at + 2]) + 256 * wide(store[at + 3]),
-        codes,
-    }
+    row_at(store, row_place(k))
 }

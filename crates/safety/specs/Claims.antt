@@ -1,15 +1,14 @@
 -- What is claimed of every list of one-command calls. The proofs are elsewhere; this file and the definitions below it are to be believed.
-use Prim.Native.Nat.{ℕ, zero, suc, _+_, _≤_, _<_, min}
+use Prim.Native.Nat.{ℕ, zero, suc, _+_, _≤_, _<_}
 use mathlib.Core.Bool.{true, false}
-use mathlib.Core.List.{List, [], _∷_}
+use mathlib.Core.List.{List, []}
 use mathlib.Core.Path.{_≡_}
 use lib.Dec.{eqb}
 use lib.ListN.{length, getD}
-use Rattle.choice.specs.Choice.{pick, both, either}
-use Rattle.bits.specs.Bits.{hasBit}
-use Rattle.row.specs.Rows.{getRow, rowPlace}
+use Rattle.choice.specs.Choice.{pick, either}
+use Rattle.row.specs.Rows.{noRow, getRow, rowPlace}
 use Rattle.site.specs.State.{stateOf, codeOf, isActive}
-use Rattle.site.specs.Records.{Written, recordCode}
+use Rattle.site.specs.Records.{Written}
 use Rattle.site.specs.declared.CommitQuorum.{CommitQuorum}
 use Rattle.site.specs.declared.AbortQuorum.{AbortQuorum}
 use Rattle.rules.specs.Rules.{hear, adopt}
@@ -23,30 +22,8 @@ use Rattle.world.specs.Valid.{validWorld}
 use Rattle.play.specs.Calls.{Call}
 use Rattle.play.specs.Commands.{oneCommand}
 use Rattle.play.specs.Run.{Ask, Ran, run, callOf}
-
--- how many records of a history lead to the code: 1 prepare; 2 and 3 the groups commit and abort; 4 and 5 the outcomes commit and abort
-unfoldable pub written : ℕ → List Written → ℕ
-written code [] = 0
-written code (r ∷ H) = pick (eqb (recordCode (r .what)) code) 1 0 + written code H
-
--- how many of them were written at site j
-unfoldable pub writtenAt : ℕ → ℕ → List Written → ℕ
-writtenAt j code [] = 0
-writtenAt j code (r ∷ H) = pick (both (eqb (r .site) j) (eqb (recordCode (r .what)) code)) 1 0 + writtenAt j code H
-
--- how many different outcomes are in a history
-unfoldable pub outcomes : List Written → ℕ
-outcomes H = min 1 (written 4 H) + min 1 (written 5 H)
-
--- DEMAND 3 of a history H of a competition of n sites: at most one outcome; with a commit exactly n prepare records, one at each site,
--- and every site willing; no site with two group records or two outcome records
-pub record Safe (n willing : ℕ) (H : List Written) : Type 0 where
-  pub one-outcome : outcomes H ≤ 1
-  pub all-prepared : 1 ≤ written 4 H → written 1 H ≡ n
-  pub prepared-once : 1 ≤ written 4 H → (j : ℕ) → j < n → writtenAt j 1 H ≡ 1
-  pub all-willing : 1 ≤ written 4 H → (j : ℕ) → j < n → hasBit willing j ≡ true
-  pub one-group : (j : ℕ) → writtenAt j 2 H + writtenAt j 3 H ≤ 1
-  pub one-outcome-at : (j : ℕ) → writtenAt j 4 H + writtenAt j 5 H ≤ 1
+use Rattle.history.specs.Safe.{writtenAt, Safe}
+use Rattle.history.specs.Network.{Competition, Told, freshNetwork, IsHistory, pass}
 
 -- the run from the maker's world
 abbrev pub freshRun : ℕ → List ℕ → CommitQuorum → AbortQuorum → ℕ → List ℕ → List Ask → Ran
@@ -55,6 +32,24 @@ freshRun n weights c a willing store asks = run (freshWorld n weights c a willin
 -- THEOREM 1: over every list of calls, each with any list bytes and any place, from the maker's world and any store
 abbrev pub Demand3 : Type 0
 Demand3 = (n : ℕ) (weights : List ℕ) (c : CommitQuorum) (a : AbortQuorum) (willing : ℕ) (store : List ℕ) (asks : List Ask) → Safe n willing (freshRun n weights c a willing store asks .records)
+
+-- a run as a history of a network: steps that write the same records, leave the same n sites and have sent the same rows
+pub record HistoryOf (z : Competition) (r : Ran) : Type 0 where
+  pub steps : List Told
+  pub genuine : IsHistory z freshNetwork steps
+  pub same-records : pass z freshNetwork steps .records ≡ r .records
+  pub same-sites : (j : ℕ) → j < z .n → pass z freshNetwork steps .network .site j ≡ siteOf (r .world) j
+  pub same-count : length (pass z freshNetwork steps .network .sent) ≡ r .world .rows
+  pub same-rows :
+      (k : ℕ) → k < r .world .rows → getD (pass z freshNetwork steps .network .sent) k noRow ≡ getRow (r .store) k
+
+-- of which theorem 1 is made: every run from the maker's world, of sizes that the maker accepts, is such a history
+abbrev pub RunsAreHistories : Type 0
+RunsAreHistories =
+    (n : ℕ) (weights : List ℕ) (c : CommitQuorum) (a : AbortQuorum) (willing : ℕ) (store : List ℕ) (asks : List Ask) →
+    sizesNumber n weights c a willing ≡ 0 →
+    HistoryOf (record { n = n; weights = weights; commit = c; abort = a; willing = willing })
+    (freshRun n weights c a willing store asks)
 
 -- sizes that the maker refuses write no record at all
 abbrev pub RefusedSizes : Type 0

@@ -12,6 +12,9 @@
 //!   how long one text takes.
 //! - Converting: a quiet day, and duels as long as can be, from the first edition to the
 //!   second and back, likewise; how many bytes of the list that is made.
+//! - Single steps: every command of a list as a step of its site alone, from fresh sites on,
+//!   with the row itself where one is delivered. Both read the terms and the site, check
+//!   them, take the step and write the bytes.
 //!
 //! Run it for release: cargo run --release --bin bench
 
@@ -27,11 +30,14 @@ use model::calls::{Calls, Model, LINES_RESULT_BYTES, RESULT_BYTES};
 use model::command::list_of;
 use model::convert::converted;
 use model::generate::{duel, weighted_duel, Rng};
-use model::layout::{encode, WORLD_BYTES};
+use model::layout::{encode, site_bytes, WORLD_BYTES};
 use model::lines::list_spelled;
 use model::quiet;
-use model::row::STORE_BYTES;
-use model::{play_list, Ask, Command, Header, Replies, Sizes, World};
+use model::row::{ROW_BYTES, STORE_BYTES};
+use model::sizes::MAX_SITES;
+use model::step_call::Steps;
+use model::terms::TERMS_BYTES;
+use model::{play_list, Ask, Command, Header, Input, Replies, Site, Sizes, Terms, World};
 
 use ffi::Library;
 
@@ -79,10 +85,12 @@ fn main() {
     let by_command = least(&days(), "one command: ", run_commands);
     let lines = run_lines();
     let converted = least(&editions(), "converting: ", run_converted);
+    let singly = least(&days(), "single steps: ", run_steps);
     let whole = least(&[days(), growth()].concat(), "", run_list);
     println!("one-command ratio {by_command:.2}");
     println!("lines ratio {lines:.2}");
     println!("converting ratio {converted:.2}");
+    println!("single-step ratio {singly:.2}");
     println!("ratio {whole:.2}");
 }
 
@@ -143,6 +151,15 @@ fn run_commands(name: &str, list: &[u8]) -> f64 {
     let library = |buffers: &mut Buffers| commands_by(&Library, list, begin, buffers);
     let model = |buffers: &mut Buffers| commands_by(&Model, list, begin, buffers);
     in_turns(name, list.len(), library, model)
+}
+
+/// A list's commands, each as a step of its site alone. The sites begin as fresh ones in
+/// each play, and setting them is in both sides' time.
+fn run_steps(name: &str, list: &[u8]) -> f64 {
+    let steps = Singly::of(list);
+    let library = |buffers: &mut Buffers| steps.taken_by(&Library, buffers);
+    let model = |buffers: &mut Buffers| steps.taken_by(&Model, buffers);
+    in_turns(name, steps.bytes(), library, model)
 }
 
 /// Plays on both sides; prints and gives library over model.
@@ -243,6 +260,63 @@ fn commands_by(
     black_box(&store);
     black_box(&world);
     calls
+}
+
+/// A list's commands as steps of single sites.
+struct Singly {
+    terms: Vec<[u8; TERMS_BYTES]>,
+    /// The site of each step, and its command with its row.
+    steps: Vec<(usize, Vec<u8>)>,
+}
+
+impl Singly {
+    /// The rows are those that the list leaves, for a row never changes.
+    fn of(list: &[u8]) -> Singly {
+        let header = Header::of_list(list).expect("a list with a header");
+        let mut store = vec![0; STORE_BYTES];
+        assert_eq!(play_list(&mut store, list).number, 0);
+        let (rows, _) = store.as_chunks::<ROW_BYTES>();
+        let (mut steps, mut at) = (Vec::new(), header.end);
+        while at < list.len() {
+            let (command, next) = Command::read(Ask::new(list, at)).expect("a command");
+            steps.push((command.site(), input(command, rows).bytes()));
+            at = next;
+        }
+        let terms = (0..header.sizes.n).map(|own| Terms::of(header.sizes, own).bytes());
+        Singly {
+            terms: terms.collect(),
+            steps,
+        }
+    }
+
+    fn bytes(&self) -> usize {
+        self.steps.iter().map(|(_, command)| command.len()).sum()
+    }
+
+    /// All steps, from fresh sites on; gives how many there were.
+    fn taken_by(&self, side: &impl Steps, buffers: &mut Buffers) -> usize {
+        let mut sites = [site_bytes(&Site::FRESH); MAX_SITES];
+        let (row, result) = (&mut [0; ROW_BYTES], &mut buffers.result);
+        for (own, command) in &self.steps {
+            let (terms, site) = (black_box(&self.terms[*own]), &mut sites[*own]);
+            let number = side.step(terms, site, black_box(command), row, result);
+            assert_eq!(number, 0);
+            black_box(&row);
+        }
+        black_box(&sites);
+        self.steps.len()
+    }
+}
+
+/// A command as it is given to its site.
+fn input(command: Command, rows: &[[u8; ROW_BYTES]]) -> Input<'_> {
+    match command {
+        Command::Start => Input::Start,
+        Command::Deliver { row, .. } => Input::Deliver(&rows[row]),
+        Command::Timeout(_) => Input::Timeout,
+        Command::Crash(_) => Input::Crash,
+        Command::Recover(_) => Input::Recover,
+    }
 }
 
 /// Lists written as lines, and texts read; gives the smallest ratio.

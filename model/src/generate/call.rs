@@ -101,7 +101,8 @@ fn thinkable_store(rng: &mut Rng, world: &World) -> Vec<u8> {
     store
 }
 
-fn thinkable_site(rng: &mut Rng, me: usize, n: usize) -> Site {
+/// Any record that site `me` of n can have.
+pub fn thinkable_site(rng: &mut Rng, me: usize, n: usize) -> Site {
     let log = Log {
         prepare: rng.chance(60),
         group: maybe_side(rng, 45).map(|side| GroupRecord {
@@ -154,7 +155,7 @@ fn thinkable_news(rng: &mut Rng) -> usize {
 }
 
 /// A row that passes, with anything in its codes from n up.
-fn thinkable_row(rng: &mut Rng, n: usize) -> [u8; ROW_BYTES] {
+pub fn thinkable_row(rng: &mut Rng, n: usize) -> [u8; ROW_BYTES] {
     let mut row = [0; ROW_BYTES];
     row[0] = rng.between(1, 7) as u8;
     row[1] = rng.below(n) as u8;
@@ -174,7 +175,7 @@ fn thinkable_row(rng: &mut Rng, n: usize) -> [u8; ROW_BYTES] {
 /// TIMEOUT of a site in a group, more often where weights differ, with the group's
 /// quorum as much as the site knows of it or one more; none where such a quorum is
 /// not legal.
-fn aimed(rng: &mut Rng, world: &mut World) -> Option<Command> {
+pub fn aimed(rng: &mut Rng, world: &mut World) -> Option<Command> {
     let sizes = world.sizes;
     let joined = |&me: &usize| matches!(world.sites[me].state(), State::InGroup(_));
     let me = rng.pick((0..sizes.n).filter(joined))?;
@@ -226,7 +227,7 @@ fn aimed_at(sizes: &Sizes, side: Side, quorum: usize) -> Sizes {
 }
 
 /// Makes a weight wrong, or a quorum for the weights there are.
-fn misweigh(rng: &mut Rng, sizes: &mut Sizes) {
+pub fn misweigh(rng: &mut Rng, sizes: &mut Sizes) {
     let past = sizes.weight() - sizes.heaviest() + 1;
     match rng.below(5) {
         0 => sizes.weights[rng.below(sizes.n)] = 0,

@@ -22,6 +22,11 @@ pub fn beginning(rng: &mut Rng) -> Beginning {
 /// Sizes that pass, small ones more often; each site weighs 1.
 pub fn plain(rng: &mut Rng) -> Sizes {
     let n = sites(rng);
+    plain_of(rng, n)
+}
+
+/// Such sizes of n sites.
+pub fn plain_of(rng: &mut Rng, n: usize) -> Sizes {
     let sizes = Sizes::new(n, 0, 0, willing(rng, n));
     with_quorums(sizes, quorums(rng, &sizes))
 }
@@ -29,6 +34,11 @@ pub fn plain(rng: &mut Rng) -> Sizes {
 /// Sizes that pass, with weights of all sorts and quorums often at their bounds.
 pub fn weighted(rng: &mut Rng) -> Sizes {
     let n = sites(rng);
+    weighted_of(rng, n)
+}
+
+/// Such sizes of n sites.
+pub fn weighted_of(rng: &mut Rng, n: usize) -> Sizes {
     let plain = Sizes::new(n, 0, 0, willing(rng, n));
     let weights = weights(rng, n);
     let sizes = Sizes { weights, ..plain };

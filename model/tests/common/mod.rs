@@ -4,6 +4,8 @@
 
 pub mod bad_lines;
 pub mod bad_lists;
+pub mod beside;
+pub mod courses;
 pub mod editions;
 pub mod outputs;
 pub mod quiet;
@@ -14,7 +16,7 @@ use model::command::list_of;
 use model::layout::WORLD_BYTES;
 use model::row::STORE_BYTES;
 use model::sizes::everyone;
-use model::{Ask, Numbers};
+use model::{Ask, Event, Numbers};
 use model::{Command, GroupRecord, Kind, Log, Role, Row, Side, Site, Sizes, State, Vector, World};
 
 use Command::{Crash, Recover, Start, Timeout};
@@ -30,6 +32,37 @@ pub const M3_REPORT: &str = "sites 3 commit 2 abort 2 events 7 rows 5 news 5\n\
                              1 up subordinate prepared P-- 110\n\
                              2 up subordinate abort-group -A- 313\n\
                              end 26\n";
+
+/// The same day as steps of single sites.
+pub const M3_STEPS: [(usize, Event); 7] = [
+    (0, Event::Start),
+    (1, Event::Deliver(0)),
+    (0, Event::Deliver(1)),
+    (0, Event::Timeout),
+    (2, Event::Deliver(2)),
+    (0, Event::Deliver(3)),
+    (0, Event::Timeout),
+];
+
+/// The sites of the worked report in bytes, PAa 513, P-- 110 and -A- 313. The group records
+/// have the vectors after joining.
+pub fn m3_sites() -> [[u8; 40]; 3] {
+    [
+        three_codes([1, 1, 1, 2, 2], [5, 1, 3], [3, 1, 0]),
+        three_codes([1, 0, 1, 0, 0], [1, 1, 0], [0; 3]),
+        three_codes([1, 0, 0, 2, 0], [3, 1, 3], [3, 1, 3]),
+    ]
+}
+
+/// One of three sites in bytes: up, role and the three places of its log, its codes, and
+/// those of its group record.
+pub fn three_codes(head: [u8; 5], codes: [u8; 3], group: [u8; 3]) -> [u8; 40] {
+    let mut bytes = [0; 40];
+    bytes[..5].copy_from_slice(&head);
+    bytes[8..11].copy_from_slice(&codes);
+    bytes[24..27].copy_from_slice(&group);
+    bytes
+}
 
 /// The same day but for its last command: sites 0 and 2 are in the abort
 /// group, and site 0 knows it.

@@ -15,6 +15,7 @@ mod ffi;
 mod lines;
 mod quiet;
 mod rounds;
+mod step;
 
 use std::collections::BTreeMap;
 use std::time::Instant;

@@ -52,9 +52,10 @@ codesFrom-at (suc k) bytes at i h small =
     (λ e. rw e)
     (λ e. codesFrom-at k bytes at i (omega arith) (omega arith))
 
+-- the same codes, at two places
 pub codesFrom-same :
-    (k : ℕ) (s t : List ℕ) (at : ℕ) → ((i : ℕ) → i < k → getD s (at + i) 0 ≡ getD t (at + i) 0) →
-    codesFrom k s at ≡ codesFrom k t at
+    (k : ℕ) (s t : List ℕ) (p q : ℕ) → ((i : ℕ) → i < k → getD s (p + i) 0 ≡ getD t (q + i) 0) →
+    codesFrom k s p ≡ codesFrom k t q
 unfolding codesFrom
-codesFrom-same zero s t at h = refl
-codesFrom-same (suc k) s t at h = rw (codesFrom-same k s t at (λ i l. h i (omega arith)), h k (omega arith))
+codesFrom-same zero s t p q h = refl
+codesFrom-same (suc k) s t p q h = rw (codesFrom-same k s t p q (λ i l. h i (omega arith)), h k (omega arith))

@@ -51,7 +51,7 @@ never : {byte : ℕ} → 6 ≤ byte → byte ≤ 5 → ⊥
 never low high = omega arith
 
 -- a byte that is none of 1 to 5
-none-known :
+pub none-known :
     (byte : ℕ) → (byte ≡ 1 → ⊥) → (byte ≡ 2 → ⊥) → (byte ≡ 3 → ⊥) → (byte ≡ 4 → ⊥) → (byte ≡ 5 → ⊥) →
     both (leb 1 byte) (leb byte 5) ≡ false
 none-known byte n1 n2 n3 n4 n5 =

@@ -60,7 +60,7 @@ head-changed :
 unfolding putHead putNumbers putCounts changedWorld withNews withRows withSite worldAt
 head-changed b i s rows news parts small =
     rw
-    (byte-held b 0 layoutNumber (sym (parts .number)), byte-held b 1 (getD b 1 0) (mod-eq-of-lt (small 1)), word-held b 2 small, word-held b 4 small, word-held b 6 small, zeros-held 2 (putCounts b rows news) 14 (most-same 2 (putCounts b rows news) b 14 0 (λ j l. counts-apart b rows news (14 + j) (omega arith)) ∙ parts .zeros), codesFrom-same 16 b (putCounts b rows news) 16 (λ j l. sym (counts-apart b rows news (16 + j) (omega arith))))
+    (byte-held b 0 layoutNumber (sym (parts .number)), byte-held b 1 (getD b 1 0) (mod-eq-of-lt (small 1)), word-held b 2 small, word-held b 4 small, word-held b 6 small, zeros-held 2 (putCounts b rows news) 14 (most-same 2 (putCounts b rows news) b 14 0 (λ j l. counts-apart b rows news (14 + j) (omega arith)) ∙ parts .zeros), codesFrom-same 16 b (putCounts b rows news) 16 16 (λ j l. sym (counts-apart b rows news (16 + j) (omega arith))))
     (codes-held 16 (putCounts b rows news) 16 (omega arith))
 
 module _ (b : List ℕ) (i : ℕ) (s : Site) (rows news : ℕ) (small : i < 16) (parts : InsideParts b) where

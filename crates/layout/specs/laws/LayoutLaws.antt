@@ -218,7 +218,7 @@ world-read-back b w room f =
     (putSites-word (putHead b w) w 2 (omega arith) ∙ head-commit b w room (f .commit-fits))
     (putSites-word (putHead b w) w 4 (omega arith) ∙ head-abort b w room (f .abort-fits))
     (putSites-word (putHead b w) w 6 (omega arith) ∙ head-willing b w room (f .willing-fits))
-    (codesFrom-same 16 (putWorld b w) (putHead b w) 16 (λ i h. putSites-head 16 (putHead b w) w (16 + i) (omega arith))
+    (codesFrom-same 16 (putWorld b w) (putHead b w) 16 16 (λ i h. putSites-head 16 (putHead b w) w (16 + i) (omega arith))
     ∙ head-weights b w room (f .weights))
     (putSites-word (putHead b w) w 8 (omega arith) ∙ head-rows b w room (f .rows-fit))
     (long-same (putSites 16 (putHead b w) w) (putHead b w) 10 (putSites-word (putHead b w) w 10 (omega arith))

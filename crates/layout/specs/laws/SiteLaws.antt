@@ -182,9 +182,9 @@ unfolding siteAt
 siteAt-same b d at h =
     let k : getD b at 0 ≡ getD d at 0 = rw add-zero at (h 0 (omega arith)) in
     let c : codesFrom 16 b (at + 8) ≡ codesFrom 16 d (at + 8) =
-    codesFrom-same 16 b d (at + 8) (λ i l. rw add-assoc (h (8 + i) (omega arith))) in
+    codesFrom-same 16 b d (at + 8) (at + 8) (λ i l. rw add-assoc (h (8 + i) (omega arith))) in
     let j : codesFrom 16 b (at + 24) ≡ codesFrom 16 d (at + 24) =
-    codesFrom-same 16 b d (at + 24) (λ i l. rw add-assoc (h (24 + i) (omega arith))) in
+    codesFrom-same 16 b d (at + 24) (at + 24) (λ i l. rw add-assoc (h (24 + i) (omega arith))) in
     rw (k, h 1 (omega arith), h 2 (omega arith), h 3 (omega arith), h 4 (omega arith), c, j)
 
 site-same :

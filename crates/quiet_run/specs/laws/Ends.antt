@@ -13,8 +13,8 @@ use Rattle.site.specs.declared.AbortQuorum.{AbortQuorum}
 use Rattle.site.specs.Fields.{blankSite}
 use Rattle.site.specs.Records.{prepareRecord, groupRecord, outcomeRecord, commit, recordCode}
 use Rattle.world.specs.Worlds.{siteOf}
-use Rattle.safety.specs.Claims.{writtenAt}
-use Rattle.safety.specs.laws.HistoryLaws.{at-append}
+use Rattle.history.specs.Safe.{writtenAt}
+use Rattle.history.specs.laws.HistoryLaws.{at-append}
 use Rattle.quiet_run.specs.Claims.{recordsAt, WholeLog, RoundRows, Quietly}
 use Rattle.quiet_run.specs.laws.Tables.{table-at}
 use Rattle.quiet_run.specs.laws.Sent.{sentTo, sent-length, round-rows, rows-left}

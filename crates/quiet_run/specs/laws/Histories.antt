@@ -10,8 +10,8 @@ use borrow.Author.Tests.{eq-eqb, ne-eqb}
 use Rattle.choice.specs.Choice.{both}
 use Rattle.choice.specs.laws.Cases.{by-equal}
 use Rattle.site.specs.Records.{Written, LogRecord, wrote, recordCode}
-use Rattle.safety.specs.Claims.{writtenAt}
-use Rattle.safety.specs.laws.HistoryLaws.{at-append}
+use Rattle.history.specs.Safe.{writtenAt}
+use Rattle.history.specs.laws.HistoryLaws.{at-append}
 
 -- the record at each site below k
 unfoldable pub eachWrote : LogRecord → ℕ → List Written

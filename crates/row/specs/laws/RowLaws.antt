@@ -1,9 +1,9 @@
 -- Laws of rows in the store: what is written reads back, and nothing else changes.
-use Prim.Native.Nat.{ℕ, _+_, _*_, _/_, _%_, _≤_, _<_}
-use mathlib.Core.List.{List}
+use Prim.Native.Nat.{ℕ, suc, _+_, _*_, _/_, _%_, _≤_, _<_}
+use mathlib.Core.List.{List, _∷_}
 use mathlib.Core.Logic.{_≢_}
-use mathlib.Core.Path.{_≡_, sym, _∙_}
-use native.Mathlib.Nat.{add-zero, add-assoc, div-add-mod, div-lt-iff-lt-mul, mod-eq-of-lt}
+use mathlib.Core.Path.{_≡_, ap, sym, _∙_}
+use native.Mathlib.Nat.{suc-add, add-zero, add-assoc, div-add-mod, div-lt-iff-lt-mul, mod-eq-of-lt}
 use native.Mathlib.Omega.{arith}
 use lib.ListN.{length, getD, set, length-set}
 use lib.Seq.{lt-length-set, getD-set-same, getD-set-other, ext-getD}
@@ -86,14 +86,19 @@ putRowAt-head :
 unfolding putRowAt
 putRowAt-head store at r b h = putCodes-else 16 (putHead store at r) (at + 4) (r .codes) b (λ i l e. omega arith)
 
+-- the same row, at two places
 pub rowAt-same :
-    (s t : List ℕ) (at : ℕ) → ((i : ℕ) → i < 20 → getD s (at + i) 0 ≡ getD t (at + i) 0) → rowAt s at ≡ rowAt t at
+    (s t : List ℕ) (p q : ℕ) → ((i : ℕ) → i < 20 → getD s (p + i) 0 ≡ getD t (q + i) 0) → rowAt s p ≡ rowAt t q
 unfolding rowAt
-rowAt-same s t at h =
-    let k : getD s at 0 ≡ getD t at 0 = rw add-zero at (h 0 (omega arith)) in
-    let c : codesFrom 16 s (at + 4) ≡ codesFrom 16 t (at + 4) =
-    codesFrom-same 16 s t (at + 4) (λ i l. rw add-assoc (h (4 + i) (omega arith))) in
+rowAt-same s t p q h =
+    let k : getD s p 0 ≡ getD t q 0 = simp add-zero at (h 0 (omega arith)) in
+    let c : codesFrom 16 s (p + 4) ≡ codesFrom 16 t (q + 4) =
+    codesFrom-same 16 s t (p + 4) (q + 4) (λ i l. simp add-assoc (h (4 + i) (omega arith))) in
     rw (k, h 1 (omega arith), h 2 (omega arith), h 3 (omega arith), c)
+
+-- a row behind one byte more
+pub rowAt-behind : (x : ℕ) (l : List ℕ) (at : ℕ) → rowAt (x ∷ l) (suc at) ≡ rowAt l at
+rowAt-behind x l at = rowAt-same (x ∷ l) l (suc at) at (λ i h. ap (λ k. getD (x ∷ l) k 0) (suc-add at i))
 
 -- row k of the store
 
@@ -116,7 +121,7 @@ pub getRow-else :
     (store : List ℕ) (k : ℕ) (r : Row) (j : ℕ) → (j ≡ k → ⊥) → getRow (putRow store k r) j ≡ getRow store j
 unfolding putRow getRow rowPlace
 getRow-else store k r j h =
-    rowAt-same (putRow store k r) store (rowPlace j)
+    rowAt-same (putRow store k r) store (rowPlace j) (rowPlace j)
     (λ i l. putRowAt-else store (rowPlace k) r (rowPlace j + i) (λ m n e. h (omega arith)))
 
 pub row-same :

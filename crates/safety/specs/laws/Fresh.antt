@@ -1,6 +1,6 @@
--- The maker's world: the invariant holds of it with no record, or it is the world of zeros, which every call refuses.
+-- The maker's world: as a network it is fresh, so the invariant holds of it with no record; or it is the world of zeros, which every call refuses.
 use Prim.Native.Nat.{ℕ, zero, suc, _≤_, _<_}
-use mathlib.Core.Bool.{Bool, true, false}
+use mathlib.Core.Bool.{true, false}
 use mathlib.Core.List.{List, []}
 use mathlib.Core.Path.{_≡_, refl, ap, sym, subst, _∙_}
 use native.Mathlib.Omega.{arith}
@@ -9,9 +9,8 @@ use lib.ListN.{length, getD, set, length-set, getD-replicate, length-replicate}
 use lib.Seq.{getD-set-same, getD-set-other}
 use borrow.Author.Tests.{lt-ltb, le-ltb, ltb-true, ltb-false, eq-eqb, ne-eqb}
 use Rattle.choice.specs.Choice.{pick}
-use Rattle.choice.specs.laws.ChoiceLaws.{pick-ind}
+use Rattle.choice.specs.laws.ChoiceLaws.{pick-ind, pick-on}
 use Rattle.choice.specs.laws.Cases.{by-test, by-equal}
-use Rattle.weights.specs.Weights.{weightOf}
 use Rattle.site.specs.declared.Site.{Site}
 use Rattle.site.specs.Fields.{blankSite}
 use Rattle.site.specs.declared.CommitQuorum.{CommitQuorum}
@@ -20,10 +19,11 @@ use Rattle.world.specs.declared.World.{World}
 use Rattle.world.specs.Sizes.{sitesFit, sizesNumber}
 use Rattle.world.specs.Worlds.{downSites, zeroWorld, freshSites, freshWorld, siteOf}
 use Rattle.world.specs.Valid.{validWorld}
-use Rattle.safety.specs.Claims.{writtenAt}
-use Rattle.safety.specs.laws.Truth.{Terms, TrueHistory, TrueSite}
-use Rattle.safety.specs.laws.TruthLaws.{zero-true}
-use Rattle.safety.specs.laws.Invariant.{Invariant}
+use Rattle.history.specs.Network.{freshNetwork}
+use Rattle.history.specs.laws.TrueNetwork.{fresh-true}
+use Rattle.history.specs.laws.Alike.{Alike, alike-true}
+use Rattle.safety.specs.laws.AsNetwork.{competitionOf, rowsOf, networkOf}
+use Rattle.safety.specs.laws.Invariant.{Invariant, of-network}
 
 -- the world of sizes that are not refused
 unfoldable pub newWorld : ℕ → List ℕ → CommitQuorum → AbortQuorum → ℕ → World
@@ -77,42 +77,23 @@ pub fresh-blank : (P : Site → Type 0) → P (blankSite true) → P (blankSite 
 fresh-blank P up down k j few less =
     subst P (sym (fresh-at k j few less)) (pick-ind P (ltb j k) (blankSite true) (blankSite false) (λ _. up) (λ _. down))
 
-blank-true : (n own : ℕ) (up : Bool) → n ≤ 16 → TrueSite n own [] (blankSite up)
-unfolding blankSite writtenAt
-blank-true n own up few =
+-- the maker's world is the fresh network
+pub fresh-alike : (n : ℕ) (weights : List ℕ) (c : CommitQuorum) (a : AbortQuorum) (willing : ℕ) (store : List ℕ) → n ≤ 16 →
+    Alike n freshNetwork (networkOf (newWorld n weights c a willing) store)
+unfolding freshNetwork newWorld siteOf rowsOf
+fresh-alike n weights c a willing store few =
     record {
-      log = record { prepares = refl; commit-groups = refl; abort-groups = refl; commit-outcomes = refl; abort-outcomes = refl };
-      codes = zero-true n [] few;
-      joined = zero-true n [] few;
-    }
-
--- nothing written is true
-empty-true : (t : Terms) → TrueHistory t []
-unfolding writtenAt
-empty-true t =
-    record {
-      each = λ j.
-          record {
-            below = λ code h. absurd (omega arith);
-            one-prepare = omega arith;
-            one-group = omega arith;
-            one-outcome = omega arith;
-            is-willing = λ h. absurd (omega arith);
-          };
-      commit-group = λ j h. absurd (omega arith);
-      commit-outcome = λ j h. absurd (omega arith);
-      abort-outcome = λ j h. absurd (omega arith);
+      sites = λ j less.
+          sym (fresh-at n j few (omega arith) ∙ pick-on (ltb j n) (blankSite true) (blankSite false) (lt-ltb j n less));
+      sent = refl;
     }
 
 -- the invariant at the start
 pub new-invariant : (n : ℕ) (weights : List ℕ) (c : CommitQuorum) (a : AbortQuorum) (willing : ℕ) (store : List ℕ) → n ≤ 16 → Invariant (newWorld n weights c a willing) store []
-unfolding newWorld siteOf
+unfolding newWorld
 new-invariant n weights c a willing store few =
-    record {
-      history = empty-true (record { n = n; weight = weightOf weights; commit = c .0; abort = a .0; willing = willing });
-      sites = λ j less.
-          fresh-blank (TrueSite n j []) (blank-true n j true few) (blank-true n j false few) n j few (omega arith);
-      rows = λ k h. absurd (omega arith);
-      few = few;
-      sixteen = fresh-length n;
-    }
+    let w : World = newWorld n weights c a willing in
+    of-network w store []
+    (alike-true (competitionOf w) freshNetwork (networkOf w store) (fresh-alike n weights c a willing store few)
+    (fresh-true (competitionOf w) few))
+    (fresh-length n)

@@ -25,13 +25,13 @@ use Rattle.play.specs.Run.{Ask, Ran, run, callOf}
 use Rattle.choice.specs.Places.{sumTo}
 use Rattle.safety.specs.Claims.{NoConflict, Delivered, NeverOccurs}
 use Rattle.choice.specs.laws.Cases.{by-equal}
-use Rattle.safety.specs.laws.HistoryLaws.{grown-append}
+use Rattle.history.specs.laws.HistoryLaws.{grown-append}
 use Rattle.world.specs.laws.SizesLaws.{Sized, sized, quorums-above}
 use Rattle.world.specs.laws.WorldLaws.{valid-sized}
-use Rattle.safety.specs.laws.Truth.{Terms, TrueHistory, TrueCode, TrueRow}
-use Rattle.safety.specs.laws.TruthLaws.{all-prepared-grows, not-both, says, says-not-active}
-use Rattle.safety.specs.laws.Fair.{Standing, FairNoted}
-use Rattle.safety.specs.laws.FairDeliver.{standing-hear, fair-adopt}
+use Rattle.history.specs.laws.Truth.{Terms, TrueHistory, TrueCode, TrueRow}
+use Rattle.history.specs.laws.TruthLaws.{all-prepared-grows, not-both, says, says-not-active}
+use Rattle.history.specs.laws.Fair.{Standing, FairNoted}
+use Rattle.history.specs.laws.FairDeliver.{standing-hear, fair-adopt}
 use Rattle.safety.specs.laws.Invariant.{Invariant, termsOf, standing}
 use Rattle.safety.specs.laws.Fresh.{newWorld, fresh-new, fresh-zero, zero-invalid, new-invariant}
 use Rattle.safety.specs.laws.Deliveries.{Delivering, delivering}

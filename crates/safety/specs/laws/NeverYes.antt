@@ -16,10 +16,11 @@ use Rattle.world.specs.Worlds.{zeroWorld, siteOf}
 use Rattle.world.specs.Valid.{validWorld}
 use Rattle.world.specs.laws.SizesLaws.{sized}
 use Rattle.play.specs.Run.{Ask, Ran, run}
-use Rattle.safety.specs.Claims.{writtenAt, Shaped, DownEmpty, OnlyAborts, NoYes, runOn, NeverSaysYes}
-use Rattle.safety.specs.laws.HistoryLaws.{at-append}
-use Rattle.safety.specs.laws.Truth.{Says}
-use Rattle.safety.specs.laws.TruthLaws.{says, says-active}
+use Rattle.history.specs.Safe.{writtenAt}
+use Rattle.safety.specs.Claims.{Shaped, DownEmpty, OnlyAborts, NoYes, runOn, NeverSaysYes}
+use Rattle.history.specs.laws.HistoryLaws.{at-append}
+use Rattle.history.specs.laws.Truth.{Says}
+use Rattle.history.specs.laws.TruthLaws.{says, says-active}
 use Rattle.safety.specs.laws.Invariant.{Invariant}
 use Rattle.safety.specs.laws.Fresh.{newWorld, fresh-new, fresh-zero, zero-invalid, new-invariant}
 use Rattle.safety.specs.laws.RunWorlds.{fresh-whole}

@@ -60,7 +60,7 @@ use Rattle.play.specs.Calls.{Call, refuse, enterSilent, enterRow, withinNews, e
 use Rattle.play.specs.Commands.{startCall, timeoutCall, crashCall, recoverCall, perform, performRead, playCommand, oneCommand}
 use Rattle.play.specs.Run.{Ask, run, callOf, afterCall}
 use Rattle.safety.specs.Claims.{Shaped, NewsIsSum, entriesChanged, CallTells}
-use Rattle.safety.specs.laws.Turns.{Writes, Moved, Held, keeps-adopt, keeps-answer}
+use Rattle.member.specs.laws.Steady.{Writes, Moved, Held, keeps-adopt, keeps-answer}
 use Rattle.safety.specs.laws.Unchanging.{refused-changes-nothing, accepted-keeps-the-rest}
 use Rattle.safety.specs.laws.Deliveries.{Delivering, delivering, deliveryOf, delivery-past}
 use Rattle.safety.specs.laws.Fresh.{newWorld, fresh-new, fresh-zero}
@@ -133,7 +133,7 @@ unfolding writePrepare joinGroup writeOutcome withOwn withPrepared withGroup wit
 elsewhere own k code other =
     record {
       prepares = λ s H e q. getD-set-other (s .codes) own k _ 0 other ∙ q;
-      joins = λ kind s H e q. getD-set-other (s .codes) own k _ 0 other ∙ q;
+      joins = λ kind s H e g q. getD-set-other (s .codes) own k _ 0 other ∙ q;
       decides = λ kind s H e q. getD-set-other (s .codes) own k _ 0 other ∙ q;
     }
 

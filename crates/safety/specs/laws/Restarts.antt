@@ -18,12 +18,14 @@ use Rattle.world.specs.declared.World.{World}
 use Rattle.world.specs.Worlds.{siteOf}
 use Rattle.play.specs.Calls.{Call}
 use Rattle.play.specs.Run.{Ask, run, callOf, afterCall}
-use Rattle.safety.specs.Claims.{writtenAt, Shaped, OnlyAborts, RestartOnlyAborts}
+use Rattle.history.specs.Safe.{writtenAt}
+use Rattle.safety.specs.Claims.{Shaped, OnlyAborts, RestartOnlyAborts}
 use Rattle.safety.specs.laws.View.{Turn, by-start, by-timeout, by-deliver, by-crash, by-recover}
-use Rattle.safety.specs.laws.Turns.{Steady, active-undecided, turn-keeps}
+use Rattle.member.specs.laws.Steady.{Steady, active-undecided}
+use Rattle.safety.specs.laws.Turns.{turn-keeps}
 use Rattle.safety.specs.laws.SiteView.{AtSite, stays, turns, seen-at}
 use Rattle.safety.specs.laws.Shape.{shaped-kept}
-use Rattle.safety.specs.laws.HistoryLaws.{at-append, at-own}
+use Rattle.history.specs.laws.HistoryLaws.{at-append, at-own}
 use Rattle.safety.specs.laws.Runs.{seen}
 
 -- a site with outcome o, which has written nothing since
@@ -39,7 +41,7 @@ decided-steady own n o some =
       writes =
           record {
             prepares = λ s H e q. absurd (some (sym (q .0) ∙ active-undecided s e));
-            joins = λ k s H e q. absurd (some (sym (q .0) ∙ e));
+            joins = λ k s H e g q. absurd (some (sym (q .0) ∙ e));
             decides = λ k s H e q. absurd (some (sym (q .0) ∙ e));
           };
       hears = λ row s H e q. q;
@@ -82,7 +84,7 @@ settled-run w store (a ∷ asks) j o shaped some e code =
 down-recovers : (w : World) (store : List ℕ) (j : ℕ) (m : Move) → siteOf w j .up ≡ false → Turn w store j m → m ≡ recover j (siteOf w j)
 down-recovers w store j m down (by-start up active) = absurd (true≢false (sym up ∙ down))
 down-recovers w store j m down (by-timeout i up) = absurd (true≢false (sym up ∙ down))
-down-recovers w store j m down (by-deliver i k up there known) = absurd (true≢false (sym up ∙ down))
+down-recovers w store j m down (by-deliver i k up there known goes) = absurd (true≢false (sym up ∙ down))
 down-recovers w store j m down (by-crash i up) = absurd (true≢false (sym up ∙ down))
 down-recovers w store j m down (by-recover i _) = refl
 

@@ -9,7 +9,7 @@ use Rattle.row.specs.Rows.{rowPlace}
 use Rattle.world.specs.declared.World.{World}
 use Rattle.play.specs.Calls.{Call}
 use Rattle.play.specs.Commands.{oneCommand}
-use Rattle.play.specs.Run.{Ask, Ran, run, callOf, afterCall}
+use Rattle.play.specs.Run.{Ask, run, callOf, afterCall}
 use Rattle.safety.specs.Claims.{Unchanged, Kept, Beyond, RunsKeepBeyond}
 use Rattle.safety.specs.laws.Unchanging.{refused-changes-nothing, accepted-keeps-the-rest}
 

@@ -17,7 +17,7 @@ use Rattle.play.specs.Run.{Ask, run, callOf, afterCall}
 use Rattle.safety.specs.Claims.{Shaped, Passes, RunsPass}
 use Rattle.safety.specs.laws.Unchanging.{refused-changes-nothing}
 use Rattle.safety.specs.laws.Shape.{long-of, shaped-fresh, shaped-kept}
-use Rattle.safety.specs.laws.SoundSites.{SoundSite, site-sound}
+use Rattle.member.specs.laws.SoundSites.{SoundSite, site-sound}
 use Rattle.safety.specs.laws.Validity.{valid-stays-valid}
 use Rattle.safety.specs.laws.FreshValid.{fresh-valid}
 

@@ -1,22 +1,17 @@
 -- The shape of worlds: sixteen sites with two vectors of sixteen codes, from the maker on.
 use Prim.Native.Nat.{ℕ, _<_}
-use mathlib.Core.Bool.{Bool, true, false}
+use mathlib.Core.Bool.{true, false}
 use mathlib.Core.List.{List}
-use mathlib.Core.Path.{_≡_, refl, _∙_}
+use mathlib.Core.Path.{_≡_}
 use native.Mathlib.Omega.{arith}
 use lib.Dec.{eqb}
 use lib.ListN.{length, length-set}
 use borrow.Author.Tests.{eqb-true}
 use Rattle.choice.specs.laws.ChoiceLaws.{pick-ind}
-use Rattle.merging.specs.laws.MergeLaws.{merging-length}
-use Rattle.site.specs.declared.Group.{Group}
-use Rattle.site.specs.declared.Group.the-variants as Group·
 use Rattle.site.specs.declared.Site.{Site}
-use Rattle.site.specs.Fields.{zeroVector, blankSite, withUp, withCoordinator, withPrepared, withGroup, withOutcome, withCodes}
-use Rattle.site.specs.Records.{withOwn, writePrepare, joinGroup, writeOutcome}
 use Rattle.site.specs.declared.CommitQuorum.{CommitQuorum}
 use Rattle.site.specs.declared.AbortQuorum.{AbortQuorum}
-use Rattle.rules.specs.Rules.{Move, hear, keptVector}
+use Rattle.rules.specs.Rules.{Move}
 use Rattle.world.specs.declared.World.{World}
 use Rattle.world.specs.Sizes.{sizesNumber}
 use Rattle.world.specs.Worlds.{zeroWorld, freshSites, freshWorld, siteOf, withSite, withRows, withNews}
@@ -28,12 +23,9 @@ use Rattle.safety.specs.laws.View.{Granted, Seen, as-refused, as-silent,
 use Rattle.safety.specs.laws.ViewLaws.{view}
 use Rattle.world.specs.laws.SizesLaws.{sized}
 use Rattle.world.specs.laws.WorldLaws.{valid-sized, put-ind}
-use Rattle.safety.specs.laws.Turns.{Steady, turn-keeps}
-
--- a site with two vectors of sixteen codes
-pub record Long (s : Site) : Type 0 where
-  pub codes : length (s .codes) ≡ 16
-  pub joined : length (s .joined) ≡ 16
+use Rattle.member.specs.Claims.{Long}
+use Rattle.member.specs.laws.Long.{long-blank, long-steady}
+use Rattle.safety.specs.laws.Turns.{turn-keeps}
 
 pub long-of : (w : World) → Shaped w → (j : ℕ) → j < 16 → Long (siteOf w j)
 long-of w shaped j h = record { codes = shaped .codes j h; joined = shaped .joined j h }
@@ -43,10 +35,6 @@ shaped-by w l h = record { sites = l; codes = λ j k. h j k .codes; joined = λ 
 
 -- the maker
 
-long-blank : (b : Bool) → Long (blankSite b)
-unfolding blankSite zeroVector
-long-blank b = record { codes = refl; joined = refl }
-
 pub shaped-fresh : (n : ℕ) (weights : List ℕ) (c : CommitQuorum) (a : AbortQuorum) (willing : ℕ) → Shaped (freshWorld n weights c a willing)
 unfolding freshWorld newWorld zeroWorld siteOf freshSites
 shaped-fresh n weights c a willing =
@@ -55,31 +43,6 @@ shaped-fresh n weights c a willing =
     (λ j. fresh-blank Long (long-blank true) (long-blank false) n j
     (sized n weights c a willing (eqb-true (sizesNumber n weights c a willing) 0 e) .high)))
     (λ _. shaped-by zeroWorld (fresh-length 0) (λ j. fresh-blank Long (long-blank true) (long-blank false) 0 j (omega arith)))
-
--- the rules
-
-pub kept-length : (g : Group) (v : List ℕ) → length v ≡ 16 → length (keptVector g v) ≡ 16
-unfolding keptVector zeroVector
-kept-length Group·.None v l = refl
-kept-length Group·.Commit v l = l
-kept-length Group·.Abort v l = l
-
-pub long-steady : (own n : ℕ) → Steady own n (λ s H. Long s)
-unfolding withUp withCoordinator withPrepared withGroup withOutcome withCodes withOwn writePrepare joinGroup writeOutcome hear
-long-steady own n =
-    record {
-      up = λ b s H q. record { codes = q .codes; joined = q .joined };
-      role = λ b s H q. record { codes = q .codes; joined = q .joined };
-      writes =
-          record {
-            prepares = λ s H e q. record { codes = simp length-set (q .codes); joined = q .joined };
-            joins = λ k s H e q. record { codes = simp length-set (q .codes); joined = simp length-set (q .codes) };
-            decides = λ k s H e q. record { codes = simp length-set (q .codes); joined = q .joined };
-          };
-      hears = λ row s H e q.
-          record { codes = merging-length n own (row .sender) (row .codes) (s .codes) ∙ q .codes; joined = q .joined };
-      forgets = λ s H q. record { codes = simp length-set (kept-length (s .group) (s .joined) (q .joined)); joined = q .joined };
-    }
 
 shaped-put : (w : World) (own : ℕ) (s : Site) → Shaped w → own < 16 → Long s → Shaped (withSite own s w)
 unfolding withSite

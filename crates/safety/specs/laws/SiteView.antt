@@ -11,7 +11,8 @@ use Rattle.world.specs.declared.World.{World}
 use Rattle.world.specs.Worlds.{siteOf, withSite, withRows, withNews}
 use Rattle.world.specs.laws.WorldLaws.{valid-sized, put-ind}
 use Rattle.play.specs.Calls.{Call, refuse, putBack, enterSilent, enterRow}
-use Rattle.safety.specs.Claims.{writtenAt, Shaped}
+use Rattle.history.specs.Safe.{writtenAt}
+use Rattle.safety.specs.Claims.{Shaped}
 use Rattle.safety.specs.laws.View.{Turn, Granted, Seen, as-refused, as-silent, as-row}
 use Rattle.safety.specs.laws.Unchanging.{turn-only, other-site}
 

@@ -15,10 +15,12 @@ use Rattle.world.specs.declared.World.{World}
 use Rattle.world.specs.Worlds.{siteOf, withSite, withRows, withNews}
 use Rattle.play.specs.Calls.{Call, refuse, putBack, enterSilent, enterRow}
 use Rattle.play.specs.Commands.{oneCommand}
-use Rattle.safety.specs.Claims.{writtenAt, Unchanged, RefusedChangesNothing, Kept, AcceptedKeepsTheRest}
+use Rattle.history.specs.Safe.{writtenAt}
+use Rattle.safety.specs.Claims.{Unchanged, RefusedChangesNothing, Kept, AcceptedKeepsTheRest}
 use Rattle.safety.specs.laws.View.{Turn, Seen, as-refused, as-silent, as-row}
 use Rattle.safety.specs.laws.ViewLaws.{view}
-use Rattle.safety.specs.laws.Turns.{Steady, turn-keeps}
+use Rattle.member.specs.laws.Steady.{Steady}
+use Rattle.safety.specs.laws.Turns.{turn-keeps}
 
 seen-refused : (w : World) (store : List ℕ) (c : Call) → Seen w store c → (c .number ≡ 0 → ⊥) → Unchanged w store c
 unfolding refuse enterSilent enterRow putBack withNews
@@ -48,7 +50,7 @@ only-steady own n =
       writes =
           record {
             prepares = λ s H e q. only-more own H _ q;
-            joins = λ k s H e q. only-more own H _ q;
+            joins = λ k s H e g q. only-more own H _ q;
             decides = λ k s H e q. only-more own H _ q;
           };
       hears = λ said s H e q. q;

@@ -16,7 +16,7 @@ use Rattle.safety.specs.laws.ViewLaws.{view}
 use Rattle.world.specs.laws.WorldLaws.{ValidParts, valid-parts, valid-whole, valid-sized, put-ind}
 use Rattle.safety.specs.laws.Turns.{turn-keeps}
 use Rattle.safety.specs.laws.Shape.{long-of}
-use Rattle.safety.specs.laws.SoundSites.{SoundSite, site-sound, site-valid, sound-steady}
+use Rattle.member.specs.laws.SoundSites.{SoundSite, site-sound, site-valid, sound-steady}
 
 -- the site that has moved
 moved-valid :

@@ -4,6 +4,7 @@ use mathlib.Core.Bool.{true, false}
 use mathlib.Core.List.{List}
 use mathlib.Core.Path.{_≡_}
 use lib.ListN.{length}
+use Rattle.bits.specs.Bits.{hasBit}
 use Rattle.row.specs.Rows.{getRow, rowKnown}
 use Rattle.site.specs.State.{stateOf, isActive}
 use Rattle.rules.specs.Rules.{Move, start, timeout, deliver, crash, recover}
@@ -20,7 +21,7 @@ pub data Turn (w : World) (store : List ℕ) : ℕ → Move → Type 0 where
       Turn w store 0 (start (w .n) (isWilling w 0) (siteOf w 0))
   by-timeout : (i : ℕ) → siteOf w i .up ≡ true → Turn w store i (timeout i (w .n) (w .weights) (w .commit) (w .abort) (siteOf w i))
   by-deliver :
-      (i k : ℕ) → siteOf w i .up ≡ true → k < w .rows → rowKnown (w .n) (getRow store k) ≡ true →
+      (i k : ℕ) → siteOf w i .up ≡ true → k < w .rows → rowKnown (w .n) (getRow store k) ≡ true → hasBit (getRow store k .destinations) i ≡ true →
       Turn w store i (deliver i (w .n) (isWilling w i) (getRow store k) (siteOf w i))
   by-crash : (i : ℕ) → siteOf w i .up ≡ true → Turn w store i (crash i (siteOf w i))
   by-recover : (i : ℕ) → siteOf w i .up ≡ false → Turn w store i (recover i (siteOf w i))

@@ -39,8 +39,8 @@ use Rattle.rules.specs.Rules.{
   afterHearing,
   deliver,
 }
-use Rattle.safety.specs.laws.SoundSites.{merged-small}
-use Rattle.safety.specs.laws.Turns.{Writes, Moved, Held, undecided, keeps-adopt, keeps-answer}
+use Rattle.member.specs.laws.SoundSites.{merged-small}
+use Rattle.member.specs.laws.Steady.{Writes, Moved, Held, undecided, keeps-adopt, keeps-answer}
 use Rattle.quiet_run.specs.laws.Vectors.{lowest-of-none}
 use Rattle.termination.specs.laws.Codes.{merge-outcome}
 use Rattle.termination.specs.laws.Timeouts.{Stays, codeIn, commandOf, joined-code, decided-high}
@@ -224,7 +224,7 @@ unfolding writePrepare joinGroup writeOutcome withOwn withPrepared withGroup wit
 stays-writes own s =
     record {
       prepares = λ t H e q. record { role = q .role; up = q .up };
-      joins = λ k t H e q. record { role = q .role; up = q .up };
+      joins = λ k t H e g q. record { role = q .role; up = q .up };
       decides = λ k t H e q. record { role = q .role; up = q .up };
     }
 

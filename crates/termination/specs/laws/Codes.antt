@@ -14,9 +14,9 @@ use Rattle.site.specs.declared.State.{State}
 use Rattle.site.specs.declared.State.the-variants as State·
 use Rattle.site.specs.State.{codeOf}
 use Rattle.site.specs.Records.{Written}
-use Rattle.safety.specs.Claims.{writtenAt}
-use Rattle.safety.specs.laws.HistoryLaws.{Grown}
-use Rattle.safety.specs.laws.Truth.{Says}
+use Rattle.history.specs.Safe.{writtenAt}
+use Rattle.history.specs.laws.HistoryLaws.{Grown}
+use Rattle.history.specs.laws.Truth.{Says}
 
 -- levels go with codes
 

@@ -21,8 +21,8 @@ use Rattle.world.specs.laws.WorldLaws.{valid-sized, put-ind}
 use Rattle.play.specs.Calls.{Call, putBack, enterSilent, enterRow, withinNews, enter}
 use Rattle.play.specs.Commands.{oneCommand}
 use Rattle.safety.specs.Claims.{Shaped, Kept}
-use Rattle.safety.specs.laws.HistoryLaws.{grown-append}
-use Rattle.safety.specs.laws.TruthLaws.{says}
+use Rattle.history.specs.laws.HistoryLaws.{grown-append}
+use Rattle.history.specs.laws.TruthLaws.{says}
 use Rattle.safety.specs.laws.Invariant.{Invariant, call-keeps}
 use Rattle.safety.specs.laws.ViewLaws.{view}
 use Rattle.safety.specs.laws.Unchanging.{other-site, accepted-keeps-the-rest}

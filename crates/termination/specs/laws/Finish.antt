@@ -33,7 +33,7 @@ use Rattle.safety.specs.laws.Invariant.{Invariant}
 use Rattle.safety.specs.laws.Runs.{run-keeps, run-terms, run-stuck}
 use Rattle.safety.specs.laws.RunStores.{runs-keep-beyond}
 use Rattle.safety.specs.laws.RunWorlds.{Whole, fresh-whole}
-use Rattle.safety.specs.laws.SoundSites.{state-small}
+use Rattle.member.specs.laws.SoundSites.{state-small}
 use Rattle.list.specs.Play.{Play, refusedList, stopped, playList}
 use Rattle.list.specs.Claims.{IsRun}
 use Rattle.list.specs.laws.ListTheorems.{short-refused, by-run, list-news-is-low}

@@ -19,7 +19,7 @@ use Rattle.world.specs.Sizes.{maxRows}
 use Rattle.world.specs.Worlds.{siteOf}
 use Rattle.world.specs.laws.SizesLaws.{Sized}
 use Rattle.world.specs.laws.WorldLaws.{valid-sized}
-use Rattle.safety.specs.laws.Weights.{entry-from}
+use Rattle.history.specs.laws.Weights.{entry-from}
 use Rattle.termination.specs.Schedule.{Course, turn, inTurn}
 use Rattle.termination.specs.laws.Timeouts.{Deciding, decided, commits, aborts}
 use Rattle.termination.specs.laws.Fine.{Grows, grows-none, codeAt, entryAt}

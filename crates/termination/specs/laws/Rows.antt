@@ -10,7 +10,7 @@ use Rattle.choice.specs.Choice.{both}
 use Rattle.choice.specs.laws.ChoiceLaws.{both-on, both-second}
 use Rattle.row.specs.declared.Row.{Row}
 use Rattle.row.specs.Rows.{codesKnown, rowKnown}
-use Rattle.safety.specs.laws.SoundSites.{known-small}
+use Rattle.member.specs.laws.SoundSites.{known-small}
 use Rattle.quiet_run.specs.laws.Vectors.{codes-known}
 use Rattle.termination.specs.laws.Answers.{IsCommand, prepare, join-commit, join-abort, outcome, IsReply, vote, in-group, ack}
 

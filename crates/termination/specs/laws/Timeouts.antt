@@ -32,8 +32,8 @@ use Rattle.rules.specs.Rules.{
   timeoutIn,
   timeout,
 }
-use Rattle.safety.specs.laws.SoundSites.{group-code, outcome-code}
-use Rattle.safety.specs.laws.Turns.{undecided}
+use Rattle.member.specs.laws.SoundSites.{group-code, outcome-code}
+use Rattle.member.specs.laws.Steady.{undecided}
 
 -- the code of a site's state
 abbrev pub codeIn : Site → ℕ

@@ -19,12 +19,12 @@ use Rattle.world.specs.declared.World.{World}
 use Rattle.world.specs.Worlds.{siteOf}
 use Rattle.world.specs.laws.SizesLaws.{Sized, quorums-above}
 use Rattle.world.specs.laws.WorldLaws.{valid-parts, valid-sized}
-use Rattle.safety.specs.Claims.{writtenAt}
-use Rattle.safety.specs.laws.Truth.{TrueCode, TrueVector}
-use Rattle.safety.specs.laws.TruthLaws.{vector-merge, says, says-code, not-both}
+use Rattle.history.specs.Safe.{writtenAt}
+use Rattle.history.specs.laws.Truth.{TrueCode, TrueVector}
+use Rattle.history.specs.laws.TruthLaws.{vector-merge, says, says-code, not-both}
 use Rattle.safety.specs.laws.Invariant.{termsOf}
 use Rattle.safety.specs.laws.Shape.{long-of}
-use Rattle.safety.specs.laws.SoundSites.{SoundSite, site-sound}
+use Rattle.member.specs.laws.SoundSites.{SoundSite, site-sound}
 use Rattle.termination.specs.laws.Codes.{from-prepared, record-is-code}
 use Rattle.termination.specs.laws.Fine.{Fine, few, codeAt, entryAt}
 

@@ -61,11 +61,7 @@ fn let_sender_decide(told: &Delivery, site: &mut Site) {
 /// one that is sent already.
 fn answer(told: &Delivery, world: &mut World, rows: &mut [u8]) {
     let me = told.me();
-    let mut actor = Actor {
-        sizes: &world.sizes,
-        me,
-        site: &mut world.sites[me],
-    };
+    let mut actor = Actor::new(&world.sizes, me, &mut world.sites[me]);
     if let Some(reply) = actor.act(Command::deliver(0, me), Some(told.row())) {
         reply.write(rows, world.row_count - 1);
     }

@@ -1,0 +1,4 @@
+pub mod Safe
+pub mod Network
+pub mod Claims
+pub mod laws

@@ -1,0 +1,12 @@
+pub mod HistoryLaws
+pub mod Weights
+pub mod Truth
+pub mod TruthLaws
+pub mod Writing
+pub mod Fair
+pub mod FairTimeout
+pub mod FairDeliver
+pub mod FairCrash
+pub mod TrueNetwork
+pub mod NetworkSafe
+pub mod Alike

@@ -1,0 +1,3 @@
+pub mod StepCalls
+pub mod Claims
+pub mod laws

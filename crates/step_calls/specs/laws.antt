@@ -1,0 +1,2 @@
+pub mod StepCallLaws
+pub mod CrossingLaws
