@@ -5,6 +5,4 @@ mod orders;
 mod steps;
 mod valid;
 
-pub use orders::read_order;
 pub use steps::site_step;
-pub use valid::valid_member;
