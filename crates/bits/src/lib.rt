@@ -1,4 +1,6 @@
 // Sets of sites as bits.
+#![tactic(auto)]
+
 ghost use Rattle.std.specs.Prelude.{◌≡◌, ◌^◌, ◌≤◌, ◌<◌};
 ghost use Rattle.bits.specs.Bits.{has_bit, only_site, every_site, other_sites};
 

@@ -1,4 +1,6 @@
 // Sixteen codes in a buffer, one byte a code.
+#![tactic(auto)]
+
 ghost use Rattle.std.specs.Prelude.{◌≡◌, ◌+◌, ◌≤◌, length};
 ghost use Rattle.code_bytes.specs.CodeBytes.{put_codes, codes_from};
 

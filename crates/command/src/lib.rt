@@ -1,4 +1,5 @@
 // The readers of a list's bytes and commands.
+#![tactic(auto)]
 mod reader;
 mod view;
 
@@ -6,18 +7,18 @@ pub use reader::{refusal_of, target_command};
 pub use view::{View, byte_at, byte_in, command_in, look_at, read_command};
 
 // The site stands first in both, so that it is found in the same place.
-#[derive(Drop)]
+#[derive(Clone, Copy)]
 pub struct Delivery {
     pub site: usize,
     pub row: usize,
 }
 
-#[derive(Drop)]
+#[derive(Clone, Copy)]
 pub struct Target {
     pub site: usize,
 }
 
-#[derive(Drop)]
+#[derive(Clone, Copy)]
 pub enum Command {
     Start,
     Deliver(Delivery),
@@ -27,20 +28,20 @@ pub enum Command {
 }
 
 // A command, and the place after it.
-#[derive(Drop)]
+#[derive(Clone, Copy)]
 pub struct Parsed {
     pub command: Command,
     pub next: usize,
 }
 
 // A refusal's number, and its place: of the command byte in a list, of the line's first byte in a text.
-#[derive(Drop)]
+#[derive(Clone, Copy)]
 pub struct Refusal {
     pub number: u8,
     pub place: usize,
 }
 
-#[derive(Drop)]
+#[derive(Clone, Copy)]
 pub enum Reading {
     Refused(Refusal),
     Found(Parsed),

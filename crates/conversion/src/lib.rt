@@ -1,4 +1,5 @@
 // Carrying a list from one edition to the other.
+#![tactic(auto)]
 mod editions;
 mod number;
 

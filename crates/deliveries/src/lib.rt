@@ -1,4 +1,5 @@
 // DELIVER, after the merge: an outcome adopted, the answer by kind.
+#![tactic(auto)]
 mod join_commit;
 
 ghost use Rattle.std.specs.Prelude.{◌≡◌, List, ◌<◌, ◌≤◌};

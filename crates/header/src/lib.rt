@@ -1,4 +1,5 @@
 // The header of a list, of either edition, and the refusals 1 to 5 and 21.
+#![tactic(auto)]
 mod editions;
 mod length;
 mod number;
@@ -8,7 +9,7 @@ pub use number::{first_number, header_number};
 use site::{AbortQuorum, CommitQuorum};
 
 // The header's numbers, each of its kind.
-#[derive(Drop)]
+#[derive(Clone, Copy)]
 pub struct Header {
     pub n: usize,
     pub commit: CommitQuorum,

@@ -1,4 +1,6 @@
 // What refusal 10 asks of a row.
+#![tactic(auto)]
+
 ghost use Rattle.std.specs.Prelude.{◌≡◌, ◌≤◌, ◌<◌, leb};
 ghost use Rattle.choice.specs.Choice.{both};
 ghost use Rattle.row.specs.Rows.{codes_known, row_known};

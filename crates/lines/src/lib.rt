@@ -1,4 +1,5 @@
 // The report's lines, each put into a lent buffer.
+#![tactic(auto)]
 mod lines;
 mod log;
 mod words;

@@ -1,10 +1,11 @@
 // A member of a competition: one site with its own machine. What it is held to, what it is told and what it answers are defined here; `member_step` has the step.
+#![tactic(auto)]
 use command::Refusal;
 use row::Row;
 use site::{AbortQuorum, CommitQuorum, Group, Outcome, Site};
 
 // The sizes, which all members share; the member's own number, and whether it is willing.
-#[derive(Drop)]
+#[derive(Clone, Copy)]
 pub struct Member {
     pub n: usize,
     pub weights: [u8; 16],
@@ -15,7 +16,7 @@ pub struct Member {
 }
 
 // What a member is told. The row of a delivery stays in the bytes after the command.
-#[derive(Drop)]
+#[derive(Clone, Copy)]
 pub enum Order {
     Start,
     Deliver,
@@ -24,14 +25,14 @@ pub enum Order {
     Recover,
 }
 
-#[derive(Drop)]
+#[derive(Clone, Copy)]
 pub enum Heard {
     Refused(Refusal),
     Found(Order),
 }
 
 // The records that a step has written: at each place of the log what was written there, or none.
-#[derive(Drop)]
+#[derive(Clone, Copy)]
 pub struct Logged {
     pub prepare: bool,
     pub group: Group,
@@ -39,7 +40,7 @@ pub struct Logged {
 }
 
 // A step's answer: number (0: accepted), the next site, the row to send (kind 0: none), how many entries rose, and the records written.
-#[derive(Drop)]
+#[derive(Clone, Copy)]
 pub struct Taken {
     pub number: u8,
     pub site: Site,

@@ -1,4 +1,6 @@
 // Merging what a row says into the vector that a site holds, the sender's entry first.
+#![tactic(auto)]
+
 mod entries;
 mod entry;
 mod news;
@@ -6,7 +8,7 @@ mod news;
 pub use entries::merge;
 
 // What merging gives: the vector, and how many of its entries rose.
-#[derive(Drop)]
+#[derive(Clone, Copy)]
 pub struct Merged {
     pub codes: [u8; 16],
     pub news: usize,

@@ -1,4 +1,5 @@
 // The site rules: START, TIMEOUT, DELIVER, CRASH and RECOVER, as methods of a participant.
+#![tactic(auto)]
 mod crash;
 mod deliver;
 mod start;
@@ -7,7 +8,7 @@ mod timeout;
 use site::Site;
 
 // A site with its number, among n sites.
-#[derive(Drop)]
+#[derive(Clone, Copy)]
 pub struct Participant {
     pub own: usize,
     pub n: usize,

@@ -1,4 +1,5 @@
 // Plays a list from standard input and prints its report.
+#![tactic(auto)]
 mod show;
 
 use libc::{STDIN_FILENO, STDOUT_FILENO};

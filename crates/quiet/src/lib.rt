@@ -1,4 +1,5 @@
 // The list of a quiet day.
+#![tactic(auto)]
 mod exchange;
 
 ghost use Rattle.std.specs.Prelude.{◌≡◌, ◌+◌, ◌-◌, ◌*◌, ◌≤◌, length};

@@ -1,4 +1,5 @@
 // The report.
+#![tactic(auto)]
 mod write;
 
 pub use write::write_report;
@@ -7,7 +8,7 @@ pub use write::write_report;
 pub const LAST_NUMBER: usize = 22;
 
 // A report call's answer beside the buffer: number (0: accepted) and the text's length.
-#[derive(Drop)]
+#[derive(Clone, Copy)]
 pub struct Reported {
     pub number: u8,
     pub length: usize,

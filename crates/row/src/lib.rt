@@ -1,10 +1,12 @@
 // A row, and its twenty bytes in the store.
+#![tactic(auto)]
+
 mod store;
 
 pub use store::{get_row, no_row, put_row, put_row_at, row_at};
 
 // Kind, sender, destinations as 16 bits, and the sender's vector after the step. Kind 0: no row.
-#[derive(Drop)]
+#[derive(Clone, Copy)]
 pub struct Row {
     pub kind: u8,
     pub sender: usize,

@@ -1,4 +1,5 @@
 // Words and decimal numbers found at a place of a text.
+#![tactic(auto)]
 ghost use Rattle.std.specs.Prelude.{◌≡◌, ◌+◌, ◌<◌, ◌≤◌, length};
 ghost use Rattle.scan.specs.Scan.{is_digit, word_at, digits_from, number_at, named_at};
 
@@ -6,13 +7,13 @@ use command::byte_at;
 use word::wide;
 
 // A number, and the place after its digits.
-#[derive(Drop)]
+#[derive(Clone, Copy)]
 pub struct Number {
     pub value: usize,
     pub next: usize,
 }
 
-#[derive(Drop)]
+#[derive(Clone, Copy)]
 pub enum Numeral {
     Missing,
     Found(Number),

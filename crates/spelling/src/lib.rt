@@ -1,4 +1,5 @@
 // A list as lines and as bytes: what both ways share, and a header and a command put into a buffer either way.
+#![tactic(auto)]
 mod bytes;
 mod line;
 
@@ -9,20 +10,20 @@ use header::Header;
 pub use line::{header_line_length, line_length, put_header_line, put_line};
 
 // A header's line, and the place after it.
-#[derive(Drop)]
+#[derive(Clone, Copy)]
 pub struct HeaderLine {
     pub header: Header,
     pub next: usize,
 }
 
-#[derive(Drop)]
+#[derive(Clone, Copy)]
 pub enum HeaderReading {
     Missing,
     Found(HeaderLine),
 }
 
 // A call's answer beside the buffer: number (0: accepted), place, and the output's length.
-#[derive(Drop)]
+#[derive(Clone, Copy)]
 pub struct Spelled {
     pub number: u8,
     pub place: usize,

@@ -1,4 +1,6 @@
 // Which row of which competition each of the store's places holds.
+#![tactic(auto)]
+
 mod marks;
 mod scan;
 

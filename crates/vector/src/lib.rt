@@ -1,4 +1,6 @@
 // Codes and vectors of codes.
+#![tactic(auto)]
+
 mod codes;
 mod vector;
 

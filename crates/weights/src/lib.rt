@@ -1,4 +1,6 @@
 // The weights of a competition's sites.
+#![tactic(auto)]
+
 mod checked;
 mod made;
 mod sums;
@@ -8,7 +10,7 @@ pub use checked::measured;
 pub use made::{even_weights, few_sites};
 
 // Whether weights are as 21 and 17 want them, their sum and the largest.
-#[derive(Drop)]
+#[derive(Clone, Copy)]
 pub struct Measures {
     pub valid: bool,
     pub total: usize,

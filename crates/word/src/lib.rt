@@ -1,4 +1,5 @@
 // Bytes as wider numbers.
+#![tactic(auto)]
 ghost use Rattle.std.specs.Prelude.{◌≡◌, ◌<◌};
 
 pub fn wide(byte: u8) -> usize

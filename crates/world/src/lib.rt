@@ -1,4 +1,5 @@
 // The world of a competition: its sizes and its maker.
+#![tactic(auto)]
 mod fresh;
 mod parts;
 mod sizes;

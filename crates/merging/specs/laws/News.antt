@@ -2,7 +2,7 @@
 use Prim.Native.Nat.{ℕ, zero, suc, ◌+◌, ◌≤◌, ◌<◌}
 use Rattle.std.specs.Prelude.{true, ◌≡◌, ltb, eqb, get_or}
 use mathlib.Core.List.{List, [], ◌∷◌}
-use Rattle.std.proofs.Math.Path.{refl, ap, sym}
+use Rattle.std.proofs.Math.Path.{refl, ap, sym, subst}
 use Rattle.std.proofs.Common.{◌∙◌, eq-eqb, ne_eqb, ltb-true, ltb-false}
 use native.Mathlib.Omega.{arith}
 use Rattle.choice.specs.Choice.{pick}
@@ -159,5 +159,5 @@ unfolding risen sum_to share
 risen-others zero n own said v below = absurd (omega arith)
 risen-others (suc m) n own said v below =
     by_equal own m
-    (λ e. rw (e, other-own n m) (omega (arith, risen-few m n m said v)))
+    (λ e. subst (λ x. risen (suc m) n x said v + 1 ≤ suc m) (sym e) (rw other-own (omega (arith, risen-few m n m said v))))
     (λ e. omega (arith, share-small n own said v m, risen-others m n own said v (omega arith)))

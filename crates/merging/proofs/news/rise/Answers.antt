@@ -1,0 +1,15 @@
+use borrow.Author.Rules.{rules}
+use native.Mathlib.Omega.{arith}
+use mathlib.Core.Path.{sym}
+use Rattle.choice.specs.laws.ChoiceLaws.{pick-on, pick_off}
+use Rattle.merging.specs.Merging.{rises}
+use Rattle.merging.specs.laws.Tops.{above-rises, not_above}
+use Rattle.merging.proofs.news.rise.Goals as goal
+
+pub returns-then-top-said : goal.returns-then-top-said
+returns-then-top-said c = let a = c.args in
+    (sym (pick-on (rises a.held a.said) 1 0 (above-rises a.held a.said c.top.result (omega arith) c.top.ensures c.if-top-said.true)), search rules)
+
+pub returns : goal.returns
+returns c = let a = c.args in
+    (sym (pick_off (rises a.held a.said) 1 0 (not_above a.held a.said c.top.result (omega arith) c.top.ensures c.if-top-said.false)), search rules)

@@ -1,0 +1,7 @@
+use borrow.Author.Rules.{rules}
+use Rattle.rules.specs.Rules.{silent}
+use Rattle.rules.proofs.send.silent.Goals as goal
+
+pub returns : goal.returns
+unfolding silent
+returns c = simp c.no_row.ensures

@@ -1,0 +1,7 @@
+use borrow.Author.Rules.{rules}
+use Rattle.site.specs.State.{commit_reached}
+use Rattle.site.proofs.CommitQuorum.reached.Goals as goal
+
+pub returns : goal.returns
+unfolding commit_reached
+returns c = simp c.weigh.ensures

@@ -1,0 +1,19 @@
+use borrow.Author.Rules.{rules}
+use borrow.Author.Tests.{not-true, not-false}
+use native.Mathlib.Omega.{arith}
+use native.Mathlib.Numerals.{add-one}
+use Prim.Native.Nat.{ℕ, ◌≤◌, ◌-◌}
+use mathlib.Core.Bool.{true}
+use mathlib.Core.Path.{◌≡◌, refl, sym, ◌∙◌}
+use lib.ListN.{get_or}
+use Rattle.choice.specs.Places.{all_below}
+use Rattle.choice.specs.laws.ChoiceLaws.{both-on}
+use Rattle.choice.specs.laws.Stores.{all_not}
+use Rattle.table.specs.laws.Marks.{rows_marked, all_marked}
+use Rattle.table.proofs.marks.all_marked.Given as goal
+
+abbrev pub invariant-loop-c : goal.invariant-loop-c
+invariant-loop-c l = (l.c ≤ 16) × (all_below (λ d. rows_marked l.marks d (get_or l.rows d 0)) l.c ≡ true)
+
+abbrev pub decreases-loop-c : goal.decreases-loop-c
+decreases-loop-c l = 16 - l.c

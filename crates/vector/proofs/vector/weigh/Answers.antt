@@ -1,0 +1,21 @@
+use borrow.Author.Rules.{rules}
+use native.Mathlib.Omega.{arith}
+use native.Mathlib.Numerals.{add-one}
+use Prim.Native.Nat.{ℕ, ◌≤◌, ◌-◌, ◌*◌}
+use mathlib.Core.Path.{◌≡◌}
+use Rattle.weights.specs.Weights.{weight_of}
+use Rattle.vector.specs.Vector.{weigh}
+use Rattle.vector.proofs.vector.weigh.Goals as goal
+
+pub loop-k-init : goal.loop-k-init
+unfolding weigh
+loop-k-init c = (omega arith, omega arith, search rules)
+
+pub loop-k-preserved : goal.loop-k-preserved
+unfolding weigh weight_of
+loop-k-preserved c = (omega arith, omega arith, rw add-one (cc))
+
+pub returns : goal.returns
+unfolding weigh
+returns c = let e : ◌≡◌ {A = ℕ} c.loop-k.k c.args.n = omega arith in
+    cc

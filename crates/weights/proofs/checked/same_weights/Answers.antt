@@ -1,0 +1,26 @@
+use borrow.Author.Rules.{rules}
+use native.Mathlib.Omega.{arith}
+use native.Mathlib.Numerals.{add-one}
+use Prim.Native.Nat.{ℕ, ◌≤◌, ◌-◌}
+use mathlib.Core.Path.{◌≡◌}
+use lib.Dec.{eqb}
+use Rattle.choice.specs.Places.{all_below}
+use Rattle.weights.specs.Weights.{weight_of}
+use Rattle.weights.specs.laws.WeightLaws.{same_weights}
+use Rattle.weights.proofs.checked.same_weights.Goals as goal
+
+pub loop-k-init : goal.loop-k-init
+unfolding all_below
+loop-k-init c = (omega arith, search rules)
+
+-- LOST overflow-add-k
+-- add-k : tie.Need-overflow-add-k invariant-loop decreases-loop
+-- add-k c = search rules
+
+pub loop-k-preserved : goal.loop-k-preserved
+unfolding all_below weight_of
+loop-k-preserved c = (omega arith, rw add-one (cc))
+
+pub returns : goal.returns
+unfolding same_weights
+returns c = let e : ◌≡◌ {A = ℕ} c.loop-k.k 16 = omega arith in cc

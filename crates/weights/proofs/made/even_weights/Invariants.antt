@@ -1,0 +1,15 @@
+use borrow.Author.Rules.{rules}
+use native.Mathlib.Omega.{arith}
+use native.Mathlib.Numerals.{add-one}
+use Prim.Native.Nat.{ℕ, ◌≤◌, ◌-◌}
+use mathlib.Core.Path.{◌≡◌}
+use mathlib.Core.Path.{◌∙◌}
+use Rattle.choice.specs.Places.{stored_to}
+use Rattle.weights.specs.Weights.{weights_by, even_weights}
+use Rattle.weights.proofs.made.even_weights.Given as goal
+
+abbrev pub invariant-loop-k : goal.invariant-loop-k
+invariant-loop-k l = (l.k ≤ l.sites) × (l.sites ≤ 16) × (l.weights ≡ weights_by (λ _. 1) l.k)
+
+abbrev pub decreases-loop-k : goal.decreases-loop-k
+decreases-loop-k l = l.sites - l.k
