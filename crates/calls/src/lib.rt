@@ -1,5 +1,6 @@
 // What the calls offered to C are made of: their numbers, and one command on a world that lies in bytes.
 #![tactic(auto)]
+
 mod command_at;
 mod numbers;
 

@@ -1,5 +1,6 @@
 // The readers of a list's bytes and commands.
 #![tactic(auto)]
+
 mod reader;
 mod view;
 

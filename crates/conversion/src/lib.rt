@@ -1,5 +1,6 @@
 // Carrying a list from one edition to the other.
 #![tactic(auto)]
+
 mod editions;
 mod number;
 

@@ -1,5 +1,6 @@
 // Reads a list from standard input and prints it in the other edition, or its refusal.
 #![tactic(auto)]
+
 ghost use Rattle.std.specs.Prelude.{◌≡◌, ◌≤◌, length};
 ghost use Rattle.world.specs.Sizes.{list_bytes};
 ghost use Rattle.conversion.specs.Conversion.{convert};

@@ -1,5 +1,6 @@
 // A whole list and the report as C calls them.
 #![tactic(auto)]
+
 ghost use Rattle.std.specs.Prelude.{◌≡◌};
 ghost use Rattle.calls.specs.Calls.{list_call, report_call};
 

@@ -1,6 +1,7 @@
 // Plays the worked days of document 01, and days for the requests of document 02.
 // One line for each case: its name, and ok or what came instead.
 #![tactic(auto)]
+
 mod day;
 mod marked;
 mod restarted;

@@ -1,5 +1,6 @@
 // A world read from bytes, whole or a site at a time, and 17 asked of it where it lies.
 #![tactic(auto)]
+
 mod read;
 mod valid;
 

@@ -1,5 +1,6 @@
 // DELIVER, after the merge: an outcome adopted, the answer by kind.
 #![tactic(auto)]
+
 mod join_commit;
 
 ghost use Rattle.std.specs.Prelude.{◌≡◌, List, ◌<◌, ◌≤◌};

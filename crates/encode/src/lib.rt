@@ -1,5 +1,6 @@
 // A world written as bytes.
 #![tactic(auto)]
+
 ghost use Rattle.std.specs.Prelude.{◌≡◌, true, ℕ, ◌+◌, ◌≤◌, ◌<◌, length, get_or};
 ghost use Rattle.world.specs.Worlds.{with_site, with_rows, with_news};
 ghost use Rattle.layout.specs.Numbers.{put_number};

@@ -1,5 +1,6 @@
 // Reads lines from standard input and prints the list's bytes, or the refusal.
 #![tactic(auto)]
+
 ghost use Rattle.std.specs.Prelude.{◌≡◌, ◌≤◌, length};
 ghost use Rattle.world.specs.Sizes.{list_bytes};
 ghost use Rattle.from_lines.specs.FromLines.{from_lines};

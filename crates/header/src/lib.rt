@@ -1,5 +1,6 @@
 // The header of a list, of either edition, and the refusals 1 to 5 and 21.
 #![tactic(auto)]
+
 mod editions;
 mod length;
 mod number;

@@ -1,5 +1,6 @@
 // The test that bytes are inside the layout.
 #![tactic(auto)]
+
 ghost use Rattle.std.specs.Prelude.{◌≡◌, ℕ, ◌+◌, ◌≤◌, ◌<◌, leb, length, get_or};
 ghost use Rattle.choice.specs.Choice.{both};
 ghost use Rattle.layout.specs.Layout.{site_place, at_most, site_in_layout, sites_in_layout, in_layout};

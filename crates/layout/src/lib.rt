@@ -1,5 +1,6 @@
 // A world as 672 bytes: its length and layout number, the place of a site, the bytes of flags, groups and outcomes.
 #![tactic(auto)]
+
 mod values;
 
 pub use values::{flag_byte, group_byte, group_of, outcome_byte, outcome_of, site_place};

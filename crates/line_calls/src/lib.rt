@@ -1,5 +1,6 @@
 // What the calls offered to C that write into a lent buffer are made of: the output's length and the place go into a result of 16 bytes.
 #![tactic(auto)]
+
 ghost use Rattle.std.specs.Prelude.{◌≡◌, eqb, length};
 ghost use Rattle.layout.specs.Numbers.{put_number};
 ghost use Rattle.spelling.specs.WriteRead.{write_lines, read_lines};

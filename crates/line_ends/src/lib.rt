@@ -1,5 +1,6 @@
 // The ends of lines: what follows a command's word, up to the line feed.
 #![tactic(auto)]
+
 ghost use Rattle.std.specs.Prelude.{◌≡◌, ◌≤◌, length};
 ghost use Rattle.scan.specs.Scan.{number_at};
 ghost use Rattle.command.specs.laws.TargetLaws.{target_command};

@@ -1,5 +1,6 @@
 // Reading the lines of a list: the first line, and a command's.
 #![tactic(auto)]
+
 ghost use Rattle.std.specs.Prelude.{◌≡◌, ◌≤◌, length};
 ghost use Rattle.spelling.specs.LineReading.{read_line, read_header_line};
 

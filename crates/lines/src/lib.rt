@@ -1,5 +1,6 @@
 // The report's lines, each put into a lent buffer.
 #![tactic(auto)]
+
 mod lines;
 mod log;
 mod words;

@@ -1,5 +1,6 @@
 // A whole list: header, then commands to its end or the first refusal.
 #![tactic(auto)]
+
 mod whole;
 
 pub use whole::play_list;

@@ -1,5 +1,6 @@
 // A member of a competition: one site with its own machine. What it is held to, what it is told and what it answers are defined here; `member_step` has the step.
 #![tactic(auto)]
+
 use command::Refusal;
 use row::Row;
 use site::{AbortQuorum, CommitQuorum, Group, Outcome, Site};

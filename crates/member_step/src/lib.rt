@@ -1,5 +1,6 @@
 // One site's step: 17 asked of the member and its site, the order read, the refusals in the table's order, then the rule.
 #![tactic(auto)]
+
 mod answers;
 mod commands;
 mod orders;

@@ -1,5 +1,6 @@
 // The site rules: START, TIMEOUT, DELIVER, CRASH and RECOVER, as methods of a participant.
 #![tactic(auto)]
+
 mod crash;
 mod deliver;
 mod start;

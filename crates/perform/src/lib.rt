@@ -1,5 +1,6 @@
 // One command, read and performed.
 #![tactic(auto)]
+
 ghost use Rattle.std.specs.Prelude.{◌≡◌};
 ghost use Rattle.play.specs.Calls.{played_of};
 ghost use Rattle.play.specs.laws.Changes.{Ready, head_of};

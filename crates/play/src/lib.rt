@@ -1,6 +1,7 @@
 // One command: what it is told, what it leaves, and how a rule's step enters them. The command itself is acted out in `act`, on a world in
 // `perform`.
 #![tactic(auto)]
+
 mod entry;
 mod named;
 mod told;

@@ -1,5 +1,6 @@
 // Plays a list from standard input and prints its report.
 #![tactic(auto)]
+
 mod show;
 
 use libc::{STDIN_FILENO, STDOUT_FILENO};

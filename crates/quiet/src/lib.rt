@@ -1,5 +1,6 @@
 // The list of a quiet day.
 #![tactic(auto)]
+
 mod exchange;
 
 ghost use Rattle.std.specs.Prelude.{◌≡◌, ◌+◌, ◌-◌, ◌*◌, ◌≤◌, length};

@@ -1,5 +1,6 @@
 // The calls offered to C, on byte slices and numbers. docs/LAYOUT.md has the bytes; include/quorum.h says how to call.
 #![tactic(auto)]
+
 ghost use Rattle.std.specs.Prelude.{◌≡◌};
 ghost use Rattle.spelling.specs.WriteRead.{write_lines, read_lines};
 ghost use Rattle.conversion.specs.Conversion.{convert};

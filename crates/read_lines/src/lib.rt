@@ -1,5 +1,6 @@
 // Reading lines as a list.
 #![tactic(auto)]
+
 ghost use Rattle.std.specs.Prelude.{◌≡◌, ◌≤◌, length};
 ghost use Rattle.text.specs.laws.Written.{Written};
 ghost use Rattle.spelling.specs.WriteRead.{text_script, bytes_of, spelled_number, read_commands, read_lines};

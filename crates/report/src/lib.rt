@@ -1,5 +1,6 @@
 // The report.
 #![tactic(auto)]
+
 mod write;
 
 pub use write::write_report;

@@ -1,5 +1,6 @@
 // Words and decimal numbers found at a place of a text.
 #![tactic(auto)]
+
 ghost use Rattle.std.specs.Prelude.{◌≡◌, ◌+◌, ◌<◌, ◌≤◌, length};
 ghost use Rattle.scan.specs.Scan.{is_digit, word_at, digits_from, number_at, named_at};
 

@@ -1,5 +1,6 @@
 // What the programs print of a call that writes a list or its lines.
 #![tactic(auto)]
+
 ghost use Rattle.std.specs.Prelude.{◌≡◌, ◌<◌, ◌≤◌, length};
 ghost use Rattle.spelled_out.specs.Shown.{shown_buffer, shown_length};
 

@@ -1,5 +1,6 @@
 // A list as lines and as bytes: what both ways share, and a header and a command put into a buffer either way.
 #![tactic(auto)]
+
 mod bytes;
 mod line;
 

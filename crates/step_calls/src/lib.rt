@@ -1,5 +1,6 @@
 // What the call offered to C for one site's step is made of: terms of 32 bytes, a site of 40, a row of 20 and a result of 8.
 #![tactic(auto)]
+
 ghost use Rattle.std.specs.Prelude.{◌≡◌, ◌≤◌, length};
 ghost use Rattle.row.specs.Rows.{put_row_at};
 ghost use Rattle.layout.specs.Layout.{put_site};

@@ -1,5 +1,6 @@
 // Words and decimal numbers appended to a lent buffer.
 #![tactic(auto)]
+
 ghost use Rattle.std.specs.Prelude.{◌≡◌, ◌+◌, ◌<◌, ◌≤◌, [], ◌∷◌, ◌++◌, length};
 ghost use Rattle.text.specs.Text.{digit_at, decimal};
 ghost use Rattle.text.specs.laws.Written.{Written};

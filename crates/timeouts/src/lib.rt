@@ -1,5 +1,6 @@
 // TIMEOUT in each state but active.
 #![tactic(auto)]
+
 ghost use Rattle.std.specs.Prelude.{◌≡◌, ◌<◌, ◌≤◌};
 ghost use Rattle.choice.specs.Choice.{pick};
 ghost use Rattle.rules.specs.Rules.{take_over, choose_group, decide_commit, decide_abort};

@@ -1,5 +1,6 @@
 // Reads a list from standard input and prints its lines, or its refusal.
 #![tactic(auto)]
+
 ghost use Rattle.std.specs.Prelude.{◌≡◌, ◌≤◌, length};
 ghost use Rattle.world.specs.Sizes.{text_bytes};
 ghost use Rattle.spelling.specs.WriteRead.{write_lines};

@@ -1,5 +1,6 @@
 // The check behind 17, for a world handed in to one command or to the report. `world` defines it (`valid_world`).
 #![tactic(auto)]
+
 mod limits;
 mod sites;
 mod whole;

@@ -1,5 +1,6 @@
 // Bytes as wider numbers.
 #![tactic(auto)]
+
 ghost use Rattle.std.specs.Prelude.{◌≡◌, ◌<◌};
 
 pub fn wide(byte: u8) -> usize

@@ -1,5 +1,6 @@
 // The world of a competition: its sizes and its maker.
 #![tactic(auto)]
+
 mod fresh;
 mod parts;
 mod sizes;

@@ -1,5 +1,6 @@
 // Writing a list as lines.
 #![tactic(auto)]
+
 ghost use Rattle.std.specs.Prelude.{◌≡◌, ◌≤◌, length};
 ghost use Rattle.text.specs.laws.Written.{Written};
 ghost use Rattle.header.specs.Headers.{first_header, first_number};
