@@ -1,4 +1,3 @@
 pub mod Shown
 pub mod Table
 pub mod Claims
-pub mod laws

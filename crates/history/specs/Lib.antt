@@ -1,4 +1,3 @@
 pub mod Safe
 pub mod Network
 pub mod Claims
-pub mod laws

@@ -7,7 +7,7 @@ use Rattle.world.specs.declared.World.{World}
 use Rattle.world.specs.Sizes.{store_bytes}
 use Rattle.world.specs.Valid.{valid_world}
 use Rattle.play.specs.Commands.{one_command}
-use Rattle.safety.specs.laws.Unchanging.{refused_changes_nothing}
+use Rattle.safety.proofs.laws.Unchanging.{refused_changes_nothing}
 use Rattle.list.specs.Play.{play_list}
 use Rattle.report.specs.Report.{last_number, report_valid, untouched, report}
 use Rattle.report.specs.laws.ReportLaws.{report-refused}

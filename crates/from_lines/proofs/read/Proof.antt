@@ -2,7 +2,7 @@ use native.Mathlib.Omega.{arith}
 use lib.ListN.{length}
 use borrow.Author.Tests.{lt-ltb, le-ltb}
 use Rattle.spelling.specs.WriteRead.{refuse}
-use Rattle.round_trip.specs.laws.Rooms.{room-enough}
+use Rattle.round_trip.proofs.laws.Rooms.{room-enough}
 use Rattle.from_lines.specs.FromLines.{from_lines}
 use borrow.Author.Rules.{rules}
 use Rattle.from_lines.proofs.read.Statement.{statement}

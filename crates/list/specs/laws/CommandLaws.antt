@@ -8,9 +8,9 @@ use Rattle.world.specs.Valid.{valid_world}
 use Rattle.play.specs.Commands.{play_command, one_command}
 use Rattle.play.specs.laws.CallLaws.{one-is_play}
 use Rattle.safety.specs.Claims.{Shaped, Unchanged}
-use Rattle.safety.specs.laws.Unchanging.{refused_changes_nothing, accepted_keeps_the_rest}
-use Rattle.safety.specs.laws.Shape.{shaped-kept}
-use Rattle.safety.specs.laws.Validity.{valid-stays-valid}
+use Rattle.safety.proofs.laws.Unchanging.{refused_changes_nothing, accepted_keeps_the_rest}
+use Rattle.safety.proofs.laws.Shape.{shaped-kept}
+use Rattle.safety.proofs.laws.Validity.{valid-stays-valid}
 use Rattle.list.specs.laws.Places.{Told, placed}
 
 -- the place where accepted

@@ -6,9 +6,9 @@ use Rattle.world.specs.Valid.{valid_world}
 use Rattle.header.specs.Headers.{header_of, header_weights, header_length, header_sizes, header_number, header_world}
 use Rattle.header.specs.laws.HeaderLaws.{headed}
 use Rattle.safety.specs.Claims.{Shaped}
-use Rattle.safety.specs.laws.Shape.{shaped_fresh}
+use Rattle.safety.proofs.laws.Shape.{shaped_fresh}
 use Rattle.list.specs.Play.{play_from, play_list}
-use Rattle.safety.specs.laws.FreshValid.{fresh-valid}
+use Rattle.safety.proofs.laws.FreshValid.{fresh-valid}
 use Rattle.list.specs.laws.PlayLaws.{enough, rest}
 
 -- the world of a header

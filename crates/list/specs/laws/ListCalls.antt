@@ -8,7 +8,7 @@ use Rattle.header.specs.Headers.{header_of, header_weights, header_length, heade
 use Rattle.play.specs.Calls.{Call}
 use Rattle.play.specs.Commands.{one_command}
 use Rattle.play.specs.Run.{Ask, call_of}
-use Rattle.safety.specs.laws.NeverOccurs.{never_occurs}
+use Rattle.safety.proofs.laws.NeverOccurs.{never_occurs}
 use Rattle.list.specs.Play.{stopped, after_ask, ask_at, play_from, refused_list, play_list}
 use Rattle.list.specs.Claims.{FollowOn, ListFollowsOn, ListNeverOccurs}
 use Rattle.list.specs.laws.PlayLaws.{play_ind}

@@ -11,8 +11,8 @@ use Rattle.header.specs.laws.HeaderLaws.{length_some}
 use Rattle.play.specs.Commands.{play_command, one_command}
 use Rattle.play.specs.laws.CallLaws.{one-is_play}
 use Rattle.safety.specs.Claims.{Shaped}
-use Rattle.safety.specs.laws.Unchanging.{accepted_keeps_the_rest}
-use Rattle.safety.specs.laws.News.{fresh-none}
+use Rattle.safety.proofs.laws.Unchanging.{accepted_keeps_the_rest}
+use Rattle.safety.proofs.laws.News.{fresh-none}
 use Rattle.list.specs.laws.Places.{Told}
 use Rattle.list.specs.laws.CommandLaws.{news-told}
 use Rattle.list.specs.laws.PlayLaws.{Further, further-one}

@@ -4,7 +4,7 @@ use Rattle.std.proofs.Common.{ap, sym, ◌∙◌}
 use Rattle.header.specs.Headers.{header_world}
 use Rattle.play.specs.Run.{run}
 use Rattle.safety.specs.Claims.{Beyond}
-use Rattle.safety.specs.laws.RunStores.{runs_keep_beyond}
+use Rattle.safety.proofs.laws.RunStores.{runs_keep_beyond}
 use Rattle.list.specs.Play.{Play, stopped, refused_list, play_list}
 use Rattle.list.specs.Claims.{IsRun, KeptBeyond, ListKeepsBeyond}
 use Rattle.list.specs.laws.ListTheorems.{by-run}

@@ -18,9 +18,9 @@ use Rattle.play.specs.Commands.{one_command}
 use Rattle.play.specs.Run.{Ask, run, call_of, after_call}
 use Rattle.play.specs.laws.CallLaws.{one-is_play}
 use Rattle.safety.specs.Claims.{Shaped}
-use Rattle.safety.specs.laws.Unchanging.{refused_changes_nothing}
-use Rattle.safety.specs.laws.Demand3.{demand3}
-use Rattle.safety.specs.laws.News.{run_adds}
+use Rattle.safety.proofs.laws.Unchanging.{refused_changes_nothing}
+use Rattle.safety.proofs.laws.Demand3.{demand3}
+use Rattle.safety.proofs.laws.News.{run_adds}
 use Rattle.list.specs.Play.{Play, stopped, after_ask, ask_at, play_from, refused_list, play_list}
 use Rattle.list.specs.Claims.{OfList, IsRun, ListIsRun, ListSafe, ListNewsIsSum, ListNewsIsLow, is_stop, Ends, ListEnds}
 use Rattle.list.specs.laws.CommandLaws.{number-below}

@@ -29,7 +29,7 @@ use Rattle.play.specs.Commands.{
   perform_read,
   play_command,
 }
-use Rattle.safety.specs.laws.News.{quiet-start, quiet-timeout, quiet-crash, quiet-recover}
+use Rattle.safety.proofs.laws.News.{quiet-start, quiet-timeout, quiet-crash, quiet-recover}
 
 -- a place after another, not beyond the list
 pub record Next (list : List ℕ) (at next : ℕ) : Type 0 where

@@ -21,8 +21,8 @@ use Rattle.play.specs.Calls.{Call, refuse}
 use Rattle.play.specs.Commands.{one_command}
 use Rattle.play.specs.Run.{Ask}
 use Rattle.safety.specs.Claims.{Shaped}
-use Rattle.safety.specs.laws.Shape.{shaped_fresh, shaped-kept}
-use Rattle.safety.specs.laws.Unchanging.{accepted_keeps_the_rest}
+use Rattle.safety.proofs.laws.Shape.{shaped_fresh, shaped-kept}
+use Rattle.safety.proofs.laws.Unchanging.{accepted_keeps_the_rest}
 use Rattle.list.specs.Play.{Play, stopped, after_ask, ask_at, play_from, refused_list, play_list}
 use Rattle.list.specs.laws.PlayLaws.{play_ind, Further, further-one}
 use Rattle.list.specs.laws.HeaderLaws.{header-valid, header-shaped}

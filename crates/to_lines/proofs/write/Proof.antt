@@ -1,4 +1,4 @@
-use Rattle.round_trip.specs.laws.Rooms.{room-enough}
+use Rattle.round_trip.proofs.laws.Rooms.{room-enough}
 use borrow.Author.Rules.{rules}
 use Rattle.to_lines.proofs.write.Statement.{statement}
 use Rattle.to_lines.proofs.write.Tie as tie
