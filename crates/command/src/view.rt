@@ -1,6 +1,5 @@
 // The view of the caller's list with a place in it, and the thin functions over it through which every byte of a list, or of a text of lines, is read.
-// Functions over a struct that holds a slice have to be proved step by step, by hand, so these do no work of their own: `byte_in`
-// leaves it to `byte_of`, and `command_in` to `read_at`, which take the slice and the place as plain parameters.
+// `byte_in` leaves its work to `byte_of`, and `command_in` to `read_at`, which take the slice and the place as plain parameters.
 ghost use Rattle.std.specs.Prelude.{◌≡◌, ◌<◌, get_or};
 ghost use Rattle.command.specs.Commands.{read_command, refusal_of, refusal_at};
 
@@ -26,7 +25,7 @@ pub fn byte_in<'a>(v: View<'a>) -> usize
     byte_of(v.list, v.at)
 }
 
-// The byte at a place of a list or a text; 0 past its end. Its parameters are plain, so its callers need no proof by hand.
+// The byte at a place of a list or a text; 0 past its end. Its parameters are plain.
 pub fn byte_at(list: &[u8], at: usize) -> usize
     ensures { (result ≡ get_or list.now at 0) × (result < 256) }
 {

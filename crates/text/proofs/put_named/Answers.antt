@@ -1,0 +1,7 @@
+use borrow.Author.Rules.{rules}
+use native.Mathlib.Omega.{arith}
+use Rattle.text.specs.laws.Written.{joined}
+use Rattle.text.proofs.put_named.Goals as goal
+
+pub returns : goal.returns
+returns c = (joined c.put_word-next.ensures c.put_decimal.ensures.0, omega arith)

@@ -1,0 +1,10 @@
+use borrow.Author.Rules.{rules}
+use native.Mathlib.Omega.{arith}
+use Prim.Native.Nat.{◌<◌}
+use lib.ListN.{length, length-map}
+use Rattle.world.specs.laws.PartLaws.{site_of-within}
+use Rattle.world.proofs.World.site.Goals as goal
+
+pub returns : goal.returns
+returns c = let room : c.args.i < length c.args.self.sites = omega (arith, simp length-map at c.well-formed.0.1.1.0.1.0.1) in
+    rw site_of-within
