@@ -6,4 +6,4 @@ use Rattle.text.proofs.put_decimal.Goals as goal
 
 pub returns : goal.returns
 unfolding decimal
-returns c = (joined (joined (joined (joined (joined c.put_digit-at.ensures.0 c.put_digit-at-2.ensures.0) c.put_digit-at-3.ensures.0) c.put_digit-at-4.ensures.0) c.put_digit-at-5.ensures.0) c.put_byte.ensures.0, omega arith)
+returns c = record { written = joined (joined (joined (joined (joined c.put_digit-at.ensures.written c.put_digit-at-2.ensures.written) c.put_digit-at-3.ensures.written) c.put_digit-at-4.ensures.written) c.put_digit-at-5.ensures.written) c.put_byte.ensures.written; upper_bound = omega arith }

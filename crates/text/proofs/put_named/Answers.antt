@@ -4,4 +4,4 @@ use Rattle.text.specs.laws.Written.{joined}
 use Rattle.text.proofs.put_named.Goals as goal
 
 pub returns : goal.returns
-returns c = (joined c.put_word-next.ensures c.put_decimal.ensures.0, omega arith)
+returns c = record { written = joined c.put_word-next.ensures c.put_decimal.ensures.written; upper_bound = omega arith }

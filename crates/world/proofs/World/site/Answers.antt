@@ -6,5 +6,4 @@ use Rattle.world.specs.laws.PartLaws.{site_of-within}
 use Rattle.world.proofs.World.site.Goals as goal
 
 pub returns : goal.returns
-returns c = let room : c.args.i < length c.args.self.sites = omega (arith, simp length-map at c.well-formed.0.1.1.0.1.0.1) in
-    rw site_of-within
+returns c = site_of-within c.args.self c.args.i _ (omega (arith, c.well_formed.0.1.1.0.1.0.1))
