@@ -17,7 +17,7 @@ pub loop-k-preserved : goal.loop-k-preserved
 unfolding valid_sites
 loop-k-preserved c = let w = c.args.world in
     let k = c.loop-k.k in
-    let room : k < length w.sites = omega (arith, simp length-map at c.well_formed.0.1.1.0.1.0.1) in
+    let room : k < length w.sites = omega (arith, c.well_formed.0.1.1.0.1.0.1) in
     let e = c.valid_through-valid.ensures w.n c.valid_limits-limits.ensures in
     (omega arith, rw (add-one, ← c.loop-k.invariant.1) (e ∙ ap (λ s. both c.loop-k.valid (valid_site k w.n s)) (site_of-within w k _ room)))
 
