@@ -1,0 +1,6 @@
+use borrow.Author.Rules.{rules}
+use Rattle.play.specs.laws.CallLaws.{fits-by-room}
+use Rattle.play.proofs.entry.news_fits.Goals as goal
+
+pub returns : goal.returns
+returns c = fits-by-room c.args.before c.args.news c.requires
