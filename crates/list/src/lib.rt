@@ -7,7 +7,7 @@ pub use whole::play_list;
 use world::World;
 
 // What playing a list hands back beside the store: number (0: played to its end), world, accepted events, place.
-#[derive(Drop)]
+#[derive(Clone, Copy)]
 pub struct ListPlayed {
     pub number: u8,
     pub world: World,

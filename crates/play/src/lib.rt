@@ -13,7 +13,7 @@ pub use told::head_of;
 use world::World;
 
 // A call's answer beside the store: number (0: accepted), world, and the place after the operands, or that of the refused command.
-#[derive(Drop)]
+#[derive(Clone, Copy)]
 pub struct Played {
     pub number: u8,
     pub world: World,

@@ -7,7 +7,7 @@ mod sizes;
 
 pub use sizes::{sites_fit, sizes_number};
 
-#[derive(Drop)]
+#[derive(Clone, Copy)]
 pub struct World {
     pub sites: [site::Site; World::SITES],
     pub n: usize,
