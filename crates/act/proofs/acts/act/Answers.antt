@@ -31,7 +31,7 @@ unfolding refusal_of
 returns-in_default c = acts_refused c.args.reading c.args.head c.args.site c.refused.result c.args.store.now c.args.at _ c.in_default.is (simp (c.refusal_of-refusal.ensures, c.in_default.is) at c.refused.ensures)
 
 pub returns-then-named_site-head : goal.returns-then-named_site-head
-returns-then-named_site-head c = acts_named c.args.reading c.args.head c.args.site c.perform.result c.args.store.now c.args.at _ c.perform.new.1.1.0 c.in-Found.is (rw c.named_site.ensures at c.if-named_site-head.true) c.perform.ensures
+returns-then-named_site-head c = acts_named c.args.reading c.args.head c.args.site c.perform.result c.args.store.now c.args.at _ c.perform.new.store c.in-Found.is (rw c.named_site.ensures at c.if-named_site-head.true) c.perform.ensures
 
 pub returns : goal.returns
 returns c = acts_unnamed c.args.reading c.args.head c.args.site c.refused-2.result c.args.store.now c.args.at _ c.in-Found.is (omega (arith, c.requires.low)) (rw c.named_site.ensures at c.if-named_site-head.false) c.refused-2.ensures
