@@ -10,13 +10,11 @@ pub returns-then-not-is_digit : goal.returns-then-not-is_digit
 unfolding number_at
 returns-then-not-is_digit c = simp (sym (rw c.byte_at-first.ensures.0 at c.is_digit.ensures) ∙ c.if-not-is_digit.true)
 
--- LOST overflow-add-digits-from
--- add-digits-from : tie.Need-overflow-add-digits-from
--- add-digits-from c = omega (arith, digit_inside c.before.before.before.before.args.text.now c.before.before.before.before.args.at (sym (rw c.before.before.byte_at.ensures.0 at c.before.is_digit.ensures) ∙ not-false c.before.is_digit.result c.if1.false))
+pub overflow_add-at : goal.overflow_add-at
+overflow_add-at c = omega (arith, digit_inside c.args.text.now c.args.at (sym (rw c.byte_at-first.ensures.0 at c.is_digit.ensures) ∙ c.if-not-is_digit.false))
 
--- LOST overflow-sub-digits-from
--- sub-digits-from : tie.Need-overflow-sub-digits-from
--- sub-digits-from c = digit_low _ (sym c.before.is_digit.ensures ∙ not-false c.before.is_digit.result c.if1.false)
+pub overflow_sub-first : goal.overflow_sub-first
+overflow_sub-first c = digit_low _ (sym c.is_digit.ensures ∙ c.if-not-is_digit.false)
 
 pub digits_from-number-requires : goal.digits_from-number-requires
 digits_from-number-requires c = (
