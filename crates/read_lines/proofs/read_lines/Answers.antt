@@ -14,4 +14,4 @@ pub read_commands-requires : goal.read_commands-requires
 read_commands-requires c = let l = header_line_spelt _ _ (sym c.read_header_line-reading.ensures ∙ c.in-Found.is) in (l.in_range, omega (arith, l.next-is, header_line-longer c.in-Found.line.header), l.inside)
 
 pub returns : goal.returns
-returns c = let e = lines-found c.args.text.now c.args.buffer.now _ (sym c.read_header_line-reading.ensures ∙ c.in-Found.is) in record { value = rw e c.read_commands.ensures.value; buffer_after = rw e c.read_commands.ensures.buffer_after.0; length_in_bounds = c.read_commands.ensures.buffer_after.1 }
+returns c = let e = lines-found c.args.text.now c.args.buffer.now _ (sym c.read_header_line-reading.ensures ∙ c.in-Found.is) in record { value = rw e c.read_commands.ensures.value; buffer_after = rw e c.read_commands.ensures.buffer_after; length_in_bounds = c.read_commands.ensures.length_in_bounds }
