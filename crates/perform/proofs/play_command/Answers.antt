@@ -36,4 +36,5 @@ unfolding head_of world_of changed with_site with_rows with_news
 returns c = let w = c.args.world in
     let own = c.actor-own.result in
     let room : own < length w.sites = omega (arith, c.requires.high, c.well_formed.0.1.1.0.1.0.1) in
-    acts_played w.sites (head_of w) c.args.store.now c.args.list.now c.args.at c.read_command-reading.result own _ c.act-change.result c.act-change.new.store c.read_command-reading.ensures.0 c.actor-own.ensures.0 (site_of-within w own _ room) (rw c.head_of.ensures at c.act-change.ensures)
+    let r = acts_played w.sites (head_of w) c.args.store.now c.args.list.now c.args.at c.read_command-reading.result own _ c.act-change.result c.act-change.new.store c.read_command-reading.ensures.0 c.actor-own.ensures.0 (site_of-within w own _ room) (rw c.head_of.ensures at c.act-change.ensures) in
+    record { played = r.0; stored = r.1 }
