@@ -9,27 +9,27 @@ use Rattle.report.proofs.write.write_report.Goals as goal
 pub returns-then-not-report_valid : goal.returns-then-not-report_valid
 unfolding untouched
 returns-then-not-report_valid c = (
-  rw (report-refused _ _ _ _ _ (sym c.report_valid.ensures ∙ not-true _ c.if-not-report_valid.true)),
-  (rw (report-refused _ _ _ _ _ (sym c.report_valid.ensures ∙ not-true _ c.if-not-report_valid.true)), omega arith),
+  rw (report-refused _ _ _ _ _ (sym c.report_valid.ensures ∙ c.if-not-report_valid.true)),
+  (rw (report-refused _ _ _ _ _ (sym c.report_valid.ensures ∙ c.if-not-report_valid.true)), omega arith),
 )
 
 pub returns-then-buffer-lt-REPORT_BYTES : goal.returns-then-buffer-lt-REPORT_BYTES
 unfolding untouched
 returns-then-buffer-lt-REPORT_BYTES c = (
-  rw (report-short _ _ _ _ _ (sym c.report_valid.ensures ∙ not-false _ c.if-not-report_valid.false) c.if-buffer-lt-REPORT_BYTES.true),
-  (rw (report-short _ _ _ _ _ (sym c.report_valid.ensures ∙ not-false _ c.if-not-report_valid.false) c.if-buffer-lt-REPORT_BYTES.true), omega arith),
+  rw (report-short _ _ _ _ _ (sym c.report_valid.ensures ∙ c.if-not-report_valid.false) c.if-buffer-lt-REPORT_BYTES.true),
+  (rw (report-short _ _ _ _ _ (sym c.report_valid.ensures ∙ c.if-not-report_valid.false) c.if-buffer-lt-REPORT_BYTES.true), omega arith),
 )
 
 pub write_text-requires : goal.write_text-requires
-write_text-requires c = (sym c.report_valid.ensures ∙ not-false _ c.if-not-report_valid.false, c.if-buffer-lt-REPORT_BYTES.false)
+write_text-requires c = (sym c.report_valid.ensures ∙ c.if-not-report_valid.false, c.if-buffer-lt-REPORT_BYTES.false)
 
 pub returns : goal.returns
 unfolding accepted
 returns c = (
-  rw (report-written _ _ _ _ _ _ _ (sym c.report_valid.ensures ∙ not-false _ c.if-not-report_valid.false)
+  rw (report-written _ _ _ _ _ _ _ (sym c.report_valid.ensures ∙ c.if-not-report_valid.false)
       c.if-buffer-lt-REPORT_BYTES.false c.write_text.ensures.written),
   (
-    rw (report-written _ _ _ _ _ _ _ (sym c.report_valid.ensures ∙ not-false _ c.if-not-report_valid.false)
+    rw (report-written _ _ _ _ _ _ _ (sym c.report_valid.ensures ∙ c.if-not-report_valid.false)
         c.if-buffer-lt-REPORT_BYTES.false c.write_text.ensures.written),
     omega arith,
   ),
