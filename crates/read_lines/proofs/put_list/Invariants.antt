@@ -1,0 +1,20 @@
+use borrow.Author.Rules.{rules}
+use native.Mathlib.Omega.{arith}
+use mathlib.Core.Path.{sym, ◌∙◌}
+use lib.ListN.{length}
+use Rattle.spelling.specs.Spelling.{command_bytes}
+use Rattle.spelling.specs.LineReading.{read_line}
+use Rattle.spelling.specs.Script.{spelled_by}
+use Prim.Native.Nat.{◌-◌}
+use Rattle.text.specs.laws.Written.{joined, written-length}
+use Rattle.spelling.specs.WriteRead.{text_script, bytes_of}
+use Rattle.spelling.specs.laws.BytesBack.{list_length}
+use Rattle.spelling.specs.laws.LoopLaws.{Putting, left_end, left-refused, putting_begins, putting-on, putting-room, putting-ends, room_after}
+use Rattle.read_lines.specs.laws.ReadLaws.{line_at, text_forward}
+use Rattle.read_lines.proofs.put_list.Given as goal
+
+abbrev pub invariant-loop-at : goal.invariant-loop-at
+invariant-loop-at l = Putting command_bytes (read_line l.text) (length l.text) (spelled_by command_bytes (text_script l.text l.from).commands) l.initial.buffer l.initial.next l.buffer l.at l.next
+
+abbrev pub decreases-loop-at : goal.decreases-loop-at
+decreases-loop-at l = length l.text - l.at
