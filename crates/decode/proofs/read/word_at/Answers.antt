@@ -1,0 +1,7 @@
+use Rattle.word.specs.Words.{word_at}
+use borrow.Author.Rules.{rules}
+use Rattle.decode.proofs.read.word_at.Goals as goal
+
+pub returns : goal.returns
+unfolding word_at
+returns c = cc
