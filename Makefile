@@ -1,4 +1,5 @@
-# The library for C, the tool `quorum` over it, and where they are installed. All that is built is below target/.
+# The library for C, the tool `quorum` over it, and where they are installed. What rt builds is below crates/NAME/out/, all else below target/, with
+# copies of the archives.
 #   make                       the archives and the tool
 #   make day                   plays examples/m3.txt, the worked day of the README
 #   make install PREFIX=DIR    tool, headers, archives, pkg-config file and page of the manual; DESTDIR is put before it
@@ -17,7 +18,7 @@ step_library := target/staticlib/libquorum_step.a
 headers := include/quorum.h include/quorum_read.h include/quorum_step.h
 version := $(shell awk '/define QC_VERSION_(MAJOR|MINOR) / { print $$3 }' include/quorum.h | paste -sd .)
 # what the archives are made of
-proved := crates.txt $(shell find crates -name '*.rt' -o -name '*.antt')
+proved := crates.txt $(shell find crates -name out -prune -o \( -name '*.rt' -o -name '*.antt' \) -print)
 
 bin_place := $(DESTDIR)$(place)/bin
 lib_place := $(DESTDIR)$(place)/lib
@@ -27,15 +28,14 @@ header_place := $(DESTDIR)$(place)/include
 .PHONY: all day install uninstall gate clean
 all: $(library) $(step_library) target/quorum
 
-# what is to be proved is proved by check, several crates at a time; the second archive after the first, since both need the same crates
+# rt lib proves the crates below, lowest first, and keeps their proofs; the second archive after the first, since both need the same crates
 $(library): $(proved)
-	$(RT) check quorum
-	$(RT) staticlib quorum
-	touch $@
+	cd crates/quorum && $(RT) lib
+	mkdir -p target/staticlib
+	cp crates/quorum/out/libquorum.a $@
 $(step_library): $(proved) | $(library)
-	$(RT) check quorum_step
-	$(RT) staticlib quorum_step
-	touch $@
+	cd crates/quorum_step && $(RT) lib
+	cp crates/quorum_step/out/libquorum_step.a $@
 
 target/quorum: $(wildcard tools/*.c tools/*.h) $(headers) $(library)
 	$(CC) -std=c99 -Wall -Wextra $(CFLAGS) $(LDFLAGS) $(wildcard tools/*.c) $(library) -o $@

@@ -5,8 +5,8 @@ ghost use Rattle.std.specs.Prelude.{◌≡◌, ◌≤◌, length};
 ghost use Rattle.world.specs.Sizes.{list_bytes};
 ghost use Rattle.conversion.specs.Conversion.{convert};
 
-use libc::{STDIN_FILENO, STDOUT_FILENO};
 use spelling::Spelled;
+use std::io;
 use world::World;
 
 // The list in the other edition, into a buffer that has room for the longest, so 20 is not met.
@@ -20,11 +20,11 @@ fn carry(list: &[u8], output: &mut [u8]) -> Spelled
 }
 
 // One byte more than a list may have is read, so that a list that is too long is noticed.
-fn main() {
+fn main(rt: HostRuntime) -> io::Result<()> {
     let mut input = [0u8; World::LIST_BYTES + 1];
     let mut output = [0u8; World::LIST_BYTES];
-    let n = io::read_full(STDIN_FILENO, &mut input);
+    let n = reading::read_full(&mut rt.stdin(), &mut input)?;
     let spelled = carry(&input[..n], &mut output);
     let k = spelled_out::shown(spelled, &mut output);
-    io::write_all(STDOUT_FILENO, &output[..k]);
+    rt.write_all(&output[..k])
 }

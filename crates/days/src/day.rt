@@ -1,6 +1,7 @@
 // A day: a list and its whole report, played at once and a command at a time.
 use list::ListPlayed;
 use play::Played;
+use std::io;
 use world::World;
 
 // The report's text is the expected one.
@@ -20,7 +21,7 @@ fn reported(played: Played, events: usize, expected: &[u8]) -> bool {
     if report.length != size {
         return false;
     }
-    check::same(&got, &want)
+    got == want
 }
 
 // Where a list's play stands.
@@ -70,18 +71,16 @@ fn stepped(store: &mut [u8], list: &[u8]) -> Played {
 }
 
 // The name, and ok or how the day differs.
-pub fn day(name: &[u8], list: &[u8], expected: &[u8]) {
+pub fn day(rt: &impl Print, name: &[u8], list: &[u8], expected: &[u8]) -> io::Result<()> {
     let mut store = [0; World::STORE_BYTES];
     let whole = list::play_list(&mut store, list);
     let events = whole.events;
-    io::write_all(1, name);
+    rt.write_all(name)?;
     if !reported(end_of(whole), events, expected) {
-        io::write_all(1, b" differs\n");
-        return;
+        return rt.write_all(b" differs\n");
     }
     if !reported(stepped(&mut store, list), events, expected) {
-        io::write_all(1, b" differs a command at a time\n");
-        return;
+        return rt.write_all(b" differs a command at a time\n");
     }
-    io::write_all(1, b" ok\n");
+    rt.write_all(b" ok\n")
 }

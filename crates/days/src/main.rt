@@ -8,9 +8,11 @@ mod restarted;
 mod tempted;
 mod weighed;
 
-fn main() {
-    marked::cases();
-    tempted::cases();
-    restarted::cases();
-    weighed::cases();
+use std::io;
+
+fn main(rt: HostRuntime) -> io::Result<()> {
+    marked::cases(&rt)?;
+    tempted::cases(&rt)?;
+    restarted::cases(&rt)?;
+    weighed::cases(&rt)
 }

@@ -5,8 +5,8 @@ ghost use Rattle.std.specs.Prelude.{◌≡◌, ◌≤◌, length};
 ghost use Rattle.world.specs.Sizes.{list_bytes};
 ghost use Rattle.from_lines.specs.FromLines.{from_lines};
 
-use libc::{STDIN_FILENO, STDOUT_FILENO};
 use spelling::Spelled;
+use std::io;
 use world::World;
 
 // The longest text that is read. No list has a longer one, so that is refused as its list would be: 1.
@@ -26,11 +26,11 @@ fn read(text: &[u8], list: &mut [u8]) -> Spelled
 }
 
 // One byte more is read, so that a longer text is noticed.
-fn main() {
+fn main(rt: HostRuntime) -> io::Result<()> {
     let mut input = [0u8; LONGEST + 1];
     let mut list = [0u8; World::LIST_BYTES];
-    let n = io::read_full(STDIN_FILENO, &mut input);
+    let n = reading::read_full(&mut rt.stdin(), &mut input)?;
     let spelled = read(&input[..n], &mut list);
     let k = spelled_out::shown(spelled, &mut list);
-    io::write_all(STDOUT_FILENO, &list[..k]);
+    rt.write_all(&list[..k])
 }

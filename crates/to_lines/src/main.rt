@@ -5,8 +5,8 @@ ghost use Rattle.std.specs.Prelude.{◌≡◌, ◌≤◌, length};
 ghost use Rattle.world.specs.Sizes.{text_bytes};
 ghost use Rattle.spelling.specs.WriteRead.{write_lines};
 
-use libc::{STDIN_FILENO, STDOUT_FILENO};
 use spelling::Spelled;
+use std::io;
 use world::World;
 
 // The lines of a list, into a buffer that has room for the longest text, so 20 is not met.
@@ -20,11 +20,11 @@ fn write(list: &[u8], text: &mut [u8]) -> Spelled
 }
 
 // One byte more than a list may have is read, so that a list that is too long is noticed.
-fn main() {
+fn main(rt: HostRuntime) -> io::Result<()> {
     let mut input = [0u8; World::LIST_BYTES + 1];
     let mut text = [0u8; World::TEXT_BYTES];
-    let n = io::read_full(STDIN_FILENO, &mut input);
+    let n = reading::read_full(&mut rt.stdin(), &mut input)?;
     let spelled = write(&input[..n], &mut text);
     let k = spelled_out::shown(spelled, &mut text);
-    io::write_all(STDOUT_FILENO, &text[..k]);
+    rt.write_all(&text[..k])
 }
