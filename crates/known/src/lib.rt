@@ -31,6 +31,7 @@ fn codes_known(n: usize, codes: [u8; 16]) -> bool
     known
 }
 
+#[tactic(auto, using(choice::specs::laws::ChoiceLaws::tests), unfolding(row::specs::Rows::row_known))]
 pub fn row_known(n: usize, row: Row) -> bool
     requires { n ≤ 16 }
     ensures { result ≡ row_known n row }

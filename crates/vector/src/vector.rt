@@ -7,6 +7,7 @@ use crate::codes::is_outcome;
 use word::wide;
 
 // What an entry adds to the weight of a code.
+#[tactic(auto, using(choice::specs::laws::ChoiceLaws::tests), unfolding(crate::specs::Vector::entry_weight))]
 fn entry_weight(weight: usize, held: u8, code: u8) -> usize
     ensures { (result ≡ entry_weight weight held code) × (result ≤ weight) }
 {
