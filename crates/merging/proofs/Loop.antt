@@ -12,9 +12,10 @@ use Rattle.choice.specs.laws.Cases.{by_test}
 use Rattle.choice.specs.Places.{sum_to, stored_to}
 use Rattle.choice.specs.laws.Stores.{stored_length, stored_else, stored_at, sum_same}
 use Rattle.merging.specs.Merging.{merge_entry, is_other, merging}
-use Rattle.merging.specs.laws.Orders.{other-on, other-own, other-beyond}
-use Rattle.merging.specs.laws.MergeLaws.{merged_same, merging-length, merging-entry}
-use Rattle.merging.specs.laws.News.{gain, share, risen, share-small, merging-news}
+use Rattle.merging.proofs.Orders.{other-on, other-own, other-beyond}
+use Rattle.merging.proofs.MergeLaws.{merged_same, merging-length, merging-entry}
+use Rattle.merging.specs.laws.News.{gain, share, risen}
+use Rattle.merging.proofs.NewsLaws.{share-small, merging-news}
 
 -- WHAT THE CODE LEAVES of a list: f's value at the sender's place, then at those below n, and at last x at the receiver's
 unfoldable pub leaves : (ℕ → ℕ) → ℕ → ℕ → ℕ → ℕ → List ℕ → List ℕ

@@ -20,7 +20,7 @@ use Rattle.merging.specs.Merging.{
   takes,
   TakesOthersOnce,
 }
-use Rattle.merging.specs.laws.Orders.{other-on, other-below, other_unlike, takes-here, takes-there, sender_first-once}
+use Rattle.merging.proofs.Orders.{other-on, other-below, other_unlike, takes-here, takes-there, sender_first-once}
 
 -- an entry that rises has another code then, and any other the same
 

@@ -12,20 +12,9 @@ use Rattle.choice.specs.Places.{sum_to}
 use Rattle.choice.specs.laws.Stores.{sum_same}
 use Rattle.merging.specs.declared.Merged.{Merged}
 use Rattle.merging.specs.Merging.{rises, take_entry, take_entries, merging_in_order, is_other, merging, takes, TakesOthersOnce}
-use Rattle.merging.specs.laws.Orders.{other-own, other-below, other_unlike, takes-here, takes-there, sender_first-once}
-use Rattle.merging.specs.laws.MergeLaws.{taken-other, none-taken}
-
--- 1 if the entry of site k rises
-unfoldable pub gain : List ℕ → List ℕ → ℕ → ℕ
-gain said v k = pick (rises (get_or v k 0) (get_or said k 0)) 1 0
-
--- what the entry of site k adds to the news of a delivery: 1 if it is another site's, and rises
-unfoldable pub share : ℕ → ℕ → List ℕ → List ℕ → ℕ → ℕ
-share n own said v k = pick (is_other n own k) (gain said v k) 0
-
--- HOW MANY entries of other sites below m rise
-unfoldable pub risen : ℕ → ℕ → ℕ → List ℕ → List ℕ → ℕ
-risen m n own said v = sum_to (share n own said v) m
+use Rattle.merging.specs.laws.News.{gain, share, risen}
+use Rattle.merging.proofs.Orders.{other-own, other-below, other_unlike, takes-here, takes-there, sender_first-once}
+use Rattle.merging.proofs.MergeLaws.{taken-other, none-taken}
 
 -- a sum over an order, and over its takings of site k
 module _ (g : ℕ → ℕ) where

@@ -1,5 +1,2 @@
-pub mod Orders
-pub mod MergeLaws
 pub mod News
-pub mod Loop
 pub mod Tops

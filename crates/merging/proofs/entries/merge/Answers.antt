@@ -7,7 +7,7 @@ use lib.ListN.{get_or, set, replicate}
 use Rattle.choice.specs.Places.{stored_to}
 use Rattle.choice.specs.laws.Stores.{stored_on}
 use Rattle.merging.specs.laws.News.{gain}
-use Rattle.merging.specs.laws.Loop.{leaves-on, entry_of, marks, mark-small, left-is-merging}
+use Rattle.merging.proofs.Loop.{leaves-on, entry_of, marks, mark-small, left-is-merging}
 use Rattle.merging.proofs.entries.merge.Goals as goal
 
 pub loop-k-init : goal.loop-k-init

@@ -1,0 +1,4 @@
+pub mod Orders
+pub mod MergeLaws
+pub mod NewsLaws
+pub mod Loop
