@@ -5,7 +5,7 @@ use Rattle.std.proofs.lemmas.List.{get_or-replicate, length-replicate}
 use Rattle.choice.specs.laws.ChoiceLaws.{pick_ind, set_ind}
 use Rattle.vector.specs.Vector.{weigh}
 use Rattle.merging.specs.Merging.{rises, merge_entry, is_other, merging}
-use Rattle.merging.specs.laws.MergeLaws.{merging-length, merging-entry}
+use Rattle.merging.proofs.MergeLaws.{merging-length, merging-entry}
 use Rattle.row.specs.declared.Row.{Row}
 use Rattle.site.specs.declared.Group.{Group}
 use Rattle.site.specs.declared.Group.TheVariants as Group·

@@ -5,7 +5,7 @@ use native.Mathlib.Omega.{arith}
 use borrow.Author.Tests.{ltb-true, leb-true, leb-false, eqb-false}
 use Rattle.choice.specs.Choice.{pick}
 use Rattle.choice.specs.laws.ChoiceLaws.{pick_ind}
-use Rattle.merging.specs.laws.News.{merging-news, risen-others}
+use Rattle.merging.proofs.NewsLaws.{merging-news, risen-others}
 use Rattle.row.specs.declared.Row.{Row}
 use Rattle.row.specs.Rows.{get_row}
 use Rattle.rules.specs.Rules.{Move, start, timeout, bringing, after_hearing, deliver, crash, recover}

@@ -1,7 +1,7 @@
 -- A site with two vectors of sixteen codes, as the site's type has them: every rule keeps it.
 use Rattle.std.specs.Prelude.{ℕ, Bool, List, ◌≡◌, refl, length}
 use Rattle.std.proofs.Common.{◌∙◌, length-set}
-use Rattle.merging.specs.laws.MergeLaws.{merging-length}
+use Rattle.merging.proofs.MergeLaws.{merging-length}
 use Rattle.site.specs.declared.Group.{Group}
 use Rattle.site.specs.declared.Group.TheVariants as Group·
 use Rattle.site.specs.Fields.{zero_vector, blank_site, with_up, with_coordinator, with_prepared, with_group, with_outcome, with_codes}

@@ -10,8 +10,8 @@ use Rattle.choice.specs.Choice.{pick, both}
 use Rattle.choice.specs.laws.ChoiceLaws.{pick_ind, both-on, both_first, both-second, set_ind}
 use Rattle.vector.specs.Vector.{valid_entry, valid_entries, valid_vector}
 use Rattle.merging.specs.Merging.{rises, merge_entry, is_other, merging}
-use Rattle.merging.specs.laws.Orders.{other-own, other-beyond}
-use Rattle.merging.specs.laws.MergeLaws.{merging-entry, merging_else}
+use Rattle.merging.proofs.Orders.{other-own, other-beyond}
+use Rattle.merging.proofs.MergeLaws.{merging-entry, merging_else}
 use Rattle.row.specs.declared.Row.{Row}
 use Rattle.row.specs.Rows.{codes_known}
 use Rattle.site.specs.declared.Group.{Group}

@@ -4,9 +4,9 @@ use Rattle.std.proofs.Common.{ap, sym, ◌∙◌, arith, ext_get_or}
 use Rattle.vector.specs.Vector.{lowest_outcome}
 use Rattle.merging.specs.declared.Merged.{Merged}
 use Rattle.merging.specs.Merging.{merging_in_order, merging, TakesOthersOnce}
-use Rattle.merging.specs.laws.Orders.{sender_first-once}
-use Rattle.merging.specs.laws.MergeLaws.{merged_same, merged_length, merged_entry, taken-again}
-use Rattle.merging.specs.laws.News.{merged_news}
+use Rattle.merging.proofs.Orders.{sender_first-once}
+use Rattle.merging.proofs.MergeLaws.{merged_same, merged_length, merged_entry, taken-again}
+use Rattle.merging.proofs.NewsLaws.{merged_news}
 use Rattle.row.specs.declared.Row.{Row}
 use Rattle.site.specs.declared.Site.{Site}
 use Rattle.site.specs.Fields.{with_codes}

@@ -7,8 +7,9 @@ use Rattle.choice.specs.laws.Cases.{by_equal}
 use Rattle.choice.specs.Places.{sum_to}
 use Rattle.choice.specs.laws.Stores.{sum_same}
 use Rattle.merging.specs.Merging.{rises, is_other, merging}
-use Rattle.merging.specs.laws.Orders.{other-on, other-own}
-use Rattle.merging.specs.laws.News.{gain, share, risen, merging-news}
+use Rattle.merging.proofs.Orders.{other-on, other-own}
+use Rattle.merging.specs.laws.News.{gain, share, risen}
+use Rattle.merging.proofs.NewsLaws.{merging-news}
 use Rattle.quiet_run.proofs.laws.Vectors.{codes_of, codes_at}
 
 -- what the entry of site k tells site own: f held, g said

@@ -10,8 +10,8 @@ use Rattle.vector.specs.Codes.{is_outcome}
 use Rattle.vector.specs.Vector.{entry_weight, weigh, lowest_outcome}
 use Rattle.vector.specs.laws.VectorLaws.{lowest-none}
 use Rattle.merging.specs.Merging.{merge_entry, is_other, merging}
-use Rattle.merging.specs.laws.MergeLaws.{merging-length, merging-at, merging_else}
-use Rattle.merging.specs.laws.Orders.{other-own, other-beyond}
+use Rattle.merging.proofs.MergeLaws.{merging-length, merging-at, merging_else}
+use Rattle.merging.proofs.Orders.{other-own, other-beyond}
 use Rattle.row.specs.Rows.{codes_known}
 use Rattle.site.specs.Fields.{zero_vector}
 use Rattle.quiet_run.proofs.laws.Tables.{table, table-length, table_at, table_is, table-set}

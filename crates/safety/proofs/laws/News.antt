@@ -6,9 +6,10 @@ use Rattle.choice.specs.Choice.{pick, either}
 use Rattle.choice.specs.laws.Cases.{by_test, by_equal}
 use Rattle.choice.specs.Places.{sum_to}
 use Rattle.merging.specs.Merging.{rises, merge_entry, is_other, merging}
-use Rattle.merging.specs.laws.Orders.{other-on, other-own}
-use Rattle.merging.specs.laws.MergeLaws.{merging-at, entry-changed, entry_kept}
-use Rattle.merging.specs.laws.News.{gain, share, risen, merging-news}
+use Rattle.merging.proofs.Orders.{other-on, other-own}
+use Rattle.merging.proofs.MergeLaws.{merging-at, entry-changed, entry_kept}
+use Rattle.merging.specs.laws.News.{gain, share, risen}
+use Rattle.merging.proofs.NewsLaws.{merging-news}
 use Rattle.row.specs.declared.Row.{Row}
 use Rattle.row.specs.Rows.{get_row}
 use Rattle.site.specs.declared.Site.{Site}

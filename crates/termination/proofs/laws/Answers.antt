@@ -11,7 +11,7 @@ use Rattle.choice.specs.laws.ChoiceLaws.{pick_ind}
 use Rattle.vector.specs.Codes.{is_outcome}
 use Rattle.vector.specs.Vector.{first_outcome, lowest_outcome}
 use Rattle.merging.specs.Merging.{merge_entry}
-use Rattle.merging.specs.laws.MergeLaws.{merging-at}
+use Rattle.merging.proofs.MergeLaws.{merging-at}
 use Rattle.row.specs.declared.Row.{Row}
 use Rattle.row.specs.Rows.{no_row}
 use Rattle.site.specs.declared.Site.{Site}

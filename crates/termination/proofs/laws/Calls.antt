@@ -9,7 +9,7 @@ use Rattle.std.proofs.Math.ListN.{length}
 use borrow.Author.Tests.{lt-ltb}
 use Rattle.bits.specs.Bits.{has_bit}
 use Rattle.merging.specs.Merging.{merge_entry}
-use Rattle.merging.specs.laws.News.{merging-news}
+use Rattle.merging.proofs.NewsLaws.{merging-news}
 use Rattle.row.specs.declared.Row.{Row}
 use Rattle.row.specs.Rows.{get_row, row_known}
 use Rattle.rules.specs.Rules.{Move, timeout, bringing, after_hearing, deliver}

@@ -14,7 +14,7 @@ use Rattle.choice.specs.laws.Stores.{sum_but}
 use Rattle.vector.specs.Codes.{level}
 use Rattle.merging.specs.Merging.{rises, merge_entry}
 use Rattle.merging.specs.laws.News.{risen, share, gain}
-use Rattle.merging.specs.laws.Orders.{other-own, other-on}
+use Rattle.merging.proofs.Orders.{other-own, other-on}
 use Rattle.world.specs.declared.World.{World}
 use Rattle.world.specs.Worlds.{site_of}
 
