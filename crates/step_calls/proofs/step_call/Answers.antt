@@ -8,7 +8,9 @@ use Rattle.step_calls.proofs.step_call.Goals as goal
 
 pub returns-then-not-step_fits : goal.returns-then-not-step_fits
 unfolding leave_all
-returns-then-not-step_fits c = each_left _ _ (call_unfit _ _ _ _ _ (sym c.step_fits.ensures ∙ c.if-not-step_fits.true))
+returns-then-not-step_fits c = let a = c.args in
+    let e = each_left _ _ (call_unfit a.terms.now a.site.now a.command.now a.row.now a.res.now (sym c.step_fits.ensures ∙ c.if-not-step_fits.true)) in
+    record { value = e.0; site_after = e.1.0; row_after = e.1.1.0; res_after = e.1.1.1 }
 
 pub member_at-requires : goal.member_at-requires
 member_at-requires c = omega (arith, (fits-long _ _ _ _ (sym c.step_fits.ensures ∙ c.if-not-step_fits.false)).terms-long)
@@ -18,7 +20,9 @@ site_at-requires c = omega (arith, (fits-long _ _ _ _ (sym c.step_fits.ensures �
 
 pub returns-then-taken-ne0 : goal.returns-then-taken-ne0
 unfolding leave_all
-returns-then-taken-ne0 c = each_left _ _ (call-refused _ _ _ _ _ (sym c.step_fits.ensures ∙ c.if-not-step_fits.false) _ _ _ c.member_at.ensures c.site_at.ensures c.site_step-taken.ensures c.if-taken-ne0.true)
+returns-then-taken-ne0 c = let a = c.args in
+    let e = each_left _ _ (call-refused a.terms.now a.site.now a.command.now a.row.now a.res.now (sym c.step_fits.ensures ∙ c.if-not-step_fits.false) _ _ _ c.member_at.ensures c.site_at.ensures c.site_step-taken.ensures c.if-taken-ne0.true) in
+    record { value = e.0; site_after = e.1.0; row_after = e.1.1.0; res_after = e.1.1.1 }
 
 pub put_step-requires : goal.put_step-requires
 put_step-requires c = let l = fits-long _ _ _ _ (sym c.step_fits.ensures ∙ c.if-not-step_fits.false) in (l.site-long, l.row-long, l.result-long)
