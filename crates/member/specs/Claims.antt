@@ -1,4 +1,4 @@
--- What is claimed of one site's step. The proofs are in laws/.
+-- What is claimed of one site's step. The proofs are in laws/, and those of logs in proofs/.
 use Rattle.std.specs.Prelude.{ℕ, ◌≤◌, Bool, true, false, List, [], ◌∷◌, ◌≡◌, length, set}
 use Rattle.choice.specs.Choice.{pick}
 use Rattle.row.specs.Rows.{no_row, put_row_at}

@@ -3,7 +3,6 @@ pub mod Long
 pub mod SoundSites
 pub mod View
 pub mod Answers
-pub mod Logs
 pub mod StepLaws
 pub mod Sent
 pub mod OneRecord

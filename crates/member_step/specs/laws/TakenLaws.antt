@@ -15,7 +15,7 @@ use Rattle.member.specs.declared.Taken.{Taken}
 use Rattle.member.specs.Steps.{take, logged, taken_of}
 use Rattle.member.specs.Claims.{new_log, LogGrows}
 use Rattle.member.specs.laws.Steady.{is_active_lem}
-use Rattle.member.specs.laws.Logs.{grows_start, grows-timeout, grows-deliver, grows-crash, grows-recover}
+use Rattle.member.proofs.Logs.{grows_start, grows-timeout, grows-deliver, grows-crash, grows-recover}
 
 -- a rule's step from a site: the records written are what is new in the log
 unfoldable pub taken_step : Site → Step → Taken
