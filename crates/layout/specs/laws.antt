@@ -1,4 +1,2 @@
 pub mod NumberLaws
 pub mod SiteLaws
-pub mod LayoutLaws
-pub mod ChangeLaws

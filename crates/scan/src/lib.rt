@@ -49,6 +49,7 @@ fn is_digit(byte: usize) -> bool
 }
 
 // The digits after the first, at most four; a number that begins with a nought has none.
+#[tactic(auto, using(crate::specs::laws::NumberLaws::digits_nought), unfolding(crate::specs::Scan::number))]
 fn digits_from(text: &[u8], at: usize, first: usize) -> Number
     requires { (at ≤ length text.now) × (first < 10) }
     ensures { result ≡ digits_from 4 text.now at first }

@@ -16,7 +16,7 @@ use Rattle.play.specs.laws.Changes.{Ready, Acts, head_of, world_of, changed, act
 use Rattle.play.specs.laws.CallLaws.{ready, one-is_play, acts_played}
 use Rattle.layout.specs.Numbers.{put_number}
 use Rattle.layout.specs.Layout.{site_place, site_at, put_world, world_at, in_layout}
-use Rattle.layout.specs.laws.LayoutLaws.{site_of_lem}
+use Rattle.layout.proofs.laws.LayoutLaws.{site_of_lem}
 use Rattle.calls.specs.Calls.{result_bytes, leave, leave_command, command_call}
 use Rattle.calls.specs.laws.CallLaws.{command-plays, command-refused, command-accepted}
 

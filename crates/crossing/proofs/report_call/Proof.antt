@@ -1,4 +1,4 @@
-use Rattle.layout.specs.laws.LayoutLaws.{inside-length}
+use Rattle.layout.proofs.laws.LayoutLaws.{inside-length}
 use mathlib.Core.Path.{sym, ◌∙◌}
 use borrow.Author.Tests.{not-true, not-false}
 use Rattle.calls.specs.Calls.{leave_buffer}

@@ -11,7 +11,7 @@ use Rattle.validity.specs.laws.LimitLaws.{valid_world-by}
 use Rattle.word.specs.Words.{word_at}
 use Rattle.layout.specs.Numbers.{long_at}
 use Rattle.layout.specs.Layout.{site_place, site_at, world_at}
-use Rattle.layout.specs.laws.LayoutLaws.{site_of_lem}
+use Rattle.layout.proofs.laws.LayoutLaws.{site_of_lem}
 
 read-n : (b : List ℕ) → (world_at b).n ≡ get_or b 1 0
 unfolding world_at

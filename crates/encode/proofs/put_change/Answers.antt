@@ -1,7 +1,7 @@
 use native.Mathlib.Omega.{arith}
 use mathlib.Core.Path.{sym}
-use Rattle.layout.specs.laws.LayoutLaws.{inside-length}
-use Rattle.layout.specs.laws.ChangeLaws.{change_written}
+use Rattle.layout.proofs.laws.LayoutLaws.{inside-length}
+use Rattle.layout.proofs.laws.ChangeLaws.{change_written}
 use borrow.Author.Rules.{rules}
 use Rattle.encode.proofs.put_change.Goals as goal
 

@@ -1,6 +1,6 @@
 use mathlib.Core.Path.{sym, ◌∙◌}
 use borrow.Author.Tests.{not-true, not-false}
-use Rattle.layout.specs.laws.LayoutLaws.{inside-length}
+use Rattle.layout.proofs.laws.LayoutLaws.{inside-length}
 use Rattle.calls.specs.Calls.{leave}
 use Rattle.calls.specs.laws.CallLaws.{command_16, command-17-result, command-17-world}
 use Rattle.calls.specs.laws.CommandLaws.{command_17_valid}

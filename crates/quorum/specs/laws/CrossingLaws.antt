@@ -29,7 +29,7 @@ use Rattle.list.specs.laws.HeaderLaws.{header-valid, header-shaped}
 use Rattle.list.specs.laws.CommandLaws.{next-valid}
 use Rattle.layout.specs.Layout.{world_bytes, put_world, world_at, in_layout}
 use Rattle.layout.specs.Claims.{Fits}
-use Rattle.layout.specs.laws.LayoutLaws.{world-read-back, written-inside, inside-exact, read-sites, read-codes, read-joined, read_weights_lem}
+use Rattle.layout.proofs.laws.LayoutLaws.{world-read-back, written-inside, inside-exact, read-sites, read-codes, read-joined, read_weights_lem}
 use Rattle.calls.specs.Calls.{result_bytes, leave, leave_play}
 use Rattle.calls.specs.laws.CallLaws.{list_plays, command_16, command-17-result, command-17-world, command-refused, command-accepted}
 use Rattle.quorum.specs.Claims.{Holds, ListCrosses, CommandCrosses, Small, ResultFits}

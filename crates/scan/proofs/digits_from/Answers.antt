@@ -11,13 +11,9 @@ use Rattle.scan.proofs.digits_from.Goals as goal
 pub loop-k-init : goal.loop-k-init
 loop-k-init c = (omega arith, omega arith, omega arith, refl)
 
-pub returns-then-value-eq0 : goal.returns-then-value-eq0
-unfolding number
-returns-then-value-eq0 c = sym (digits_nought _ _ _ _ c.loop-k-test.true c.if-value-eq0.true) ∙ c.loop-k.invariant.3
-
 pub returns-then-not-is_digit : goal.returns-then-not-is_digit
 unfolding number
-returns-then-not-is_digit c = sym (digits_end _ _ _ _ c.loop-k-test.true c.if-value-eq0.false (sym (rw c.byte_at-byte.ensures.0 at c.is_digit.ensures) ∙ c.if-not-is_digit.true)) ∙ c.loop-k.invariant.3
+returns-then-not-is_digit c = sym (digits_end _ _ _ _ c.loop-k-test.true (λ e. omega arith) (sym (rw c.byte_at-byte.ensures.0 at c.is_digit.ensures) ∙ c.if-not-is_digit.true)) ∙ c.loop-k.invariant.3
 
 pub overflow_mul-value : goal.overflow_mul-value
 overflow_mul-value c = omega (arith, digits_small _ _ c.loop-k-test.true c.loop-k.invariant.2)
@@ -36,7 +32,7 @@ loop-k-preserved c = (
   omega arith,
   omega (arith, digit_inside c.args.text.now c.loop-k.next (sym (rw c.byte_at-byte.ensures.0 at c.is_digit.ensures) ∙ c.if-not-is_digit.false)),
   digit_fits _ _ _ c.loop-k.invariant.2 (sym c.is_digit.ensures ∙ c.if-not-is_digit.false),
-  rw c.byte_at-byte.ensures.0 (sym (digits_more _ _ _ _ c.loop-k-test.true c.if-value-eq0.false (sym (rw c.byte_at-byte.ensures.0 at c.is_digit.ensures) ∙ c.if-not-is_digit.false)) ∙ c.loop-k.invariant.3),
+  rw c.byte_at-byte.ensures.0 (sym (digits_more _ _ _ _ c.loop-k-test.true (λ e. omega arith) (sym (rw c.byte_at-byte.ensures.0 at c.is_digit.ensures) ∙ c.if-not-is_digit.false)) ∙ c.loop-k.invariant.3),
 )
 
 pub returns : goal.returns

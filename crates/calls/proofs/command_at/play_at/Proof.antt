@@ -1,5 +1,5 @@
 use native.Mathlib.Omega.{arith}
-use Rattle.layout.specs.laws.LayoutLaws.{inside-length}
+use Rattle.layout.proofs.laws.LayoutLaws.{inside-length}
 use Rattle.calls.specs.Calls.{leave}
 use Rattle.calls.specs.laws.CommandLaws.{playable_ready, change_refused, change_accepted}
 use borrow.Author.Rules.{rules}

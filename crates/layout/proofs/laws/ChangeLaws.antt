@@ -14,7 +14,7 @@ use Rattle.layout.specs.Numbers.{put_number}
 use Rattle.layout.specs.Layout.{layout_number, site_place, put_numbers, put_head, put_site, put_sites, put_world, site_at, world_at, site_in_layout, in_layout}
 use Rattle.layout.specs.laws.NumberLaws.{put_number_else}
 use Rattle.layout.specs.laws.SiteLaws.{put_site_else, site_at-same, zeros_held, codes_held, site-written-back, most-same, site_in_layout-same}
-use Rattle.layout.specs.laws.LayoutLaws.{byte_held, word_held, InsideParts, inside_parts, sites-each, site_of_lem, read-sites}
+use Rattle.layout.proofs.laws.LayoutLaws.{byte_held, word_held, InsideParts, inside_parts, sites-each, site_of_lem, read-sites}
 
 -- the world in the bytes, changed
 unfoldable changed_world : List ℕ → ℕ → Site → ℕ → ℕ → World
