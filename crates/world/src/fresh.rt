@@ -40,6 +40,7 @@ impl World {
     }
 
     // A fresh world, or the world of zeros for refused sizes.
+    #[tactic(auto, using(choice::specs::laws::ChoiceLaws::tests), unfolding(crate::specs::Worlds::fresh_world))]
     pub fn fresh(
         n: usize,
         weights: [u8; 16],
