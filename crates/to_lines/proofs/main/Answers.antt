@@ -1,0 +1,14 @@
+use native.Mathlib.Omega.{arith}
+use mathlib.Core.Path.{sym}
+use lib.ListN.{length-take}
+use lib.Seq.{length-take-le}
+use Rattle.to_lines.proofs.main.Goals as goal
+
+pub shown-k-requires : goal.shown-k-requires
+shown-k-requires c = (omega (arith, c.write-spelled.ensures.length_in_bounds.0), omega (arith, simp length-take at c.write-spelled.ensures.length_in_bounds.1), omega arith)
+
+pub slice_bounds-text-end : goal.slice_bounds-text-end
+slice_bounds-text-end c = omega (arith, c.shown-k.ensures.upper_bound)
+
+pub slice_bounds-write_all-end : goal.slice_bounds-write_all-end
+slice_bounds-write_all-end c = sym (length-take-le c.shown-k.result c.shown-k.new.buffer (omega (arith, c.shown-k.ensures.upper_bound)))
