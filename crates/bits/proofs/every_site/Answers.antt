@@ -1,4 +1,3 @@
-use borrow.Author.Rules.{rules}
 use lib.Pow.{pow_pos}
 use Rattle.bits.specs.Bits.{only_site, every_site}
 use Rattle.bits.proofs.every_site.Goals as goal

@@ -1,4 +1,3 @@
-use borrow.Author.Rules.{rules}
 use lib.Pow.{pow_pos}
 use Rattle.bits.specs.Bits.{only_site, has_bit}
 use Rattle.bits.proofs.has_bit.Goals as goal

@@ -1,4 +1,3 @@
-use borrow.Author.Rules.{rules}
 use native.Mathlib.Omega.{arith}
 use Rattle.bits.specs.Bits.{only_site}
 use Rattle.bits.specs.laws.BitLaws.{one_shifted}

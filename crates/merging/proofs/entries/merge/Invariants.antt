@@ -1,13 +1,8 @@
-use borrow.Author.Rules.{rules}
-use native.Mathlib.Omega.{arith}
-use native.Mathlib.Numerals.{add-one}
-use Prim.Native.Nat.{ℕ, ◌≤◌, ◌-◌}
-use mathlib.Core.Path.{◌≡◌, refl}
-use lib.ListN.{get_or, set, replicate}
+use Prim.Native.Nat.{◌≤◌, ◌-◌}
+use mathlib.Core.Path.{◌≡◌}
 use Rattle.choice.specs.Places.{stored_to}
-use Rattle.choice.specs.laws.Stores.{stored_on}
 use Rattle.merging.specs.laws.News.{gain}
-use Rattle.merging.proofs.Loop.{leaves-on, entry_of, marks, mark-small, left-is-merging}
+use Rattle.merging.proofs.Loop.{entry_of}
 use Rattle.merging.proofs.entries.merge.Given as goal
 
 abbrev pub invariant-loop-k : goal.invariant-loop-k

@@ -1,4 +1,3 @@
-use borrow.Author.Rules.{rules}
 use native.Mathlib.Omega.{arith}
 use Rattle.row.specs.Rows.{row_place, get_row}
 use Rattle.row.proofs.store.get_row.Goals as goal

@@ -1,4 +1,3 @@
-use borrow.Author.Rules.{rules}
 use native.Mathlib.Omega.{arith}
 use Rattle.row.specs.Rows.{row_place, put_row}
 use Rattle.row.proofs.store.put_row.Goals as goal

@@ -1,5 +1,3 @@
-use borrow.Author.Rules.{rules}
-use native.Mathlib.Omega.{arith}
 use Rattle.row.specs.Rows.{row_at}
 use Rattle.row.proofs.store.row_at.Goals as goal
 

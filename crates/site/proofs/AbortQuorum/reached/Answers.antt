@@ -1,4 +1,3 @@
-use borrow.Author.Rules.{rules}
 use Rattle.site.specs.State.{abort_reached}
 use Rattle.site.proofs.AbortQuorum.reached.Goals as goal
 

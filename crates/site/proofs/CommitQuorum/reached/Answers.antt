@@ -1,4 +1,3 @@
-use borrow.Author.Rules.{rules}
 use Rattle.site.specs.State.{commit_reached}
 use Rattle.site.proofs.CommitQuorum.reached.Goals as goal
 

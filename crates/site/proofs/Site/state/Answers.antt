@@ -1,4 +1,3 @@
-use borrow.Author.Rules.{rules}
 use Rattle.site.specs.State.{state_of}
 use Rattle.site.proofs.Site.state.Goals as goal
 

@@ -1,4 +1,3 @@
-use borrow.Author.Rules.{rules}
 use Rattle.site.specs.State.{code_of}
 use Rattle.site.proofs.states.code_of.Goals as goal
 

@@ -1,4 +1,3 @@
-use borrow.Author.Rules.{rules}
 use Rattle.site.specs.State.{is_active}
 use Rattle.site.proofs.states.is_active.Goals as goal
 

@@ -1,4 +1,3 @@
-use borrow.Author.Rules.{rules}
 use Rattle.site.specs.State.{is_terminated}
 use Rattle.site.proofs.states.is_terminated.Goals as goal
 

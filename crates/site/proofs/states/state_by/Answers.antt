@@ -1,4 +1,3 @@
-use borrow.Author.Rules.{rules}
 use Rattle.site.specs.State.{state_by}
 use Rattle.site.proofs.states.state_by.Goals as goal
 

@@ -1,15 +1,9 @@
-use borrow.Author.Rules.{rules}
-use borrow.Author.Tests.{not-true, not-false}
-use native.Mathlib.Omega.{arith}
-use native.Mathlib.Numerals.{add-one}
-use Prim.Native.Nat.{ℕ, ◌≤◌, ◌-◌}
+use Prim.Native.Nat.{◌≤◌, ◌-◌}
 use mathlib.Core.Bool.{true}
-use mathlib.Core.Path.{◌≡◌, refl, sym, ◌∙◌}
+use mathlib.Core.Path.{◌≡◌}
 use lib.ListN.{get_or}
 use Rattle.choice.specs.Places.{all_below}
-use Rattle.choice.specs.laws.ChoiceLaws.{both-on}
-use Rattle.choice.specs.laws.Stores.{all_not}
-use Rattle.table.specs.laws.Marks.{rows_marked, all_marked}
+use Rattle.table.specs.laws.Marks.{rows_marked}
 use Rattle.table.proofs.marks.all_marked.Given as goal
 
 abbrev pub invariant-loop-c : goal.invariant-loop-c

@@ -1,15 +1,6 @@
-use borrow.Author.Rules.{rules}
-use native.Mathlib.Omega.{arith}
-use native.Mathlib.Numerals.{add-one}
-use Prim.Native.Nat.{ℕ, ◌+◌, ◌*◌, ◌≤◌, ◌-◌}
+use Prim.Native.Nat.{◌≤◌, ◌-◌}
 use mathlib.Core.Bool.{true}
-use mathlib.Core.Path.{◌≡◌, refl, sym}
-use lib.Dec.{eqb}
-use lib.ListN.{get_or}
-use borrow.Author.Tests.{eq-eqb, ne_eqb}
-use Rattle.choice.specs.Places.{all_below}
-use Rattle.choice.specs.laws.ChoiceLaws.{both-on}
-use Rattle.choice.specs.laws.Stores.{all_not}
+use mathlib.Core.Path.{◌≡◌}
 use Rattle.table.specs.laws.Marks.{rows_marked}
 use Rattle.table.proofs.marks.rows_marked.Given as goal
 

@@ -1,13 +1,6 @@
-use borrow.Author.Rules.{rules}
-use borrow.Author.Tests.{not-true, not-false}
-use native.Mathlib.Omega.{arith}
-use native.Mathlib.Numerals.{add-one}
-use Prim.Native.Nat.{ℕ, ◌≤◌, ◌-◌}
-use mathlib.Core.Bool.{true}
-use mathlib.Core.Path.{◌≡◌, refl, sym, subst, ◌∙◌}
+use Prim.Native.Nat.{◌≤◌, ◌-◌}
 use lib.ListN.{length, get_or}
-use Rattle.table.specs.laws.Marks.{with_mark}
-use Rattle.table.specs.laws.LoopLaws.{Marked, mark_on, mark_fails, none_marked, marks_decide}
+use Rattle.table.specs.laws.LoopLaws.{Marked}
 use Rattle.table.proofs.marks.valid_table.Given as goal
 
 abbrev pub invariant-loop-p : goal.invariant-loop-p

@@ -1,10 +1,6 @@
-use borrow.Author.Rules.{rules}
-use native.Mathlib.Omega.{arith}
 use Prim.Native.Nat.{ℕ, ◌<◌, ◌-◌}
-use mathlib.Core.Path.{◌≡◌, sym, ap, ◌∙◌}
-use Rattle.choice.specs.laws.Cases.{by_equal}
+use mathlib.Core.Path.{◌≡◌}
 use lib.ListN.{length, get_or}
-use Rattle.table.specs.laws.LoopLaws.{scan_finds, scan_fails}
 use Rattle.table.proofs.scan.place_from.Given as goal
 
 abbrev pub invariant-loop-p : goal.invariant-loop-p

@@ -1,9 +1,6 @@
-use borrow.Author.Rules.{rules}
-use native.Mathlib.Omega.{arith}
-use native.Mathlib.Numerals.{add-one}
-use Prim.Native.Nat.{ℕ, ◌≤◌, ◌-◌}
+use Prim.Native.Nat.{◌≤◌, ◌-◌}
 use mathlib.Core.Path.{◌≡◌}
-use Rattle.vector.specs.Vector.{count, weigh}
+use Rattle.vector.specs.Vector.{count}
 use Rattle.vector.proofs.vector.count.Given as goal
 
 abbrev pub invariant-loop-k : goal.invariant-loop-k

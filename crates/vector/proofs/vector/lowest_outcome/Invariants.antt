@@ -1,10 +1,6 @@
-use borrow.Author.Rules.{rules}
-use native.Mathlib.Omega.{arith}
-use native.Mathlib.Numerals.{add-one}
-use Prim.Native.Nat.{ℕ, ◌≤◌, ◌-◌}
-use mathlib.Core.Path.{◌≡◌, refl, sym, ◌∙◌}
+use Prim.Native.Nat.{◌≤◌, ◌-◌}
+use mathlib.Core.Path.{◌≡◌}
 use Rattle.vector.specs.Vector.{lowest_outcome}
-use Rattle.vector.specs.laws.VectorLaws.{lowest-found, lowest-none}
 use Rattle.vector.proofs.vector.lowest_outcome.Given as goal
 
 abbrev pub invariant-loop-k : goal.invariant-loop-k

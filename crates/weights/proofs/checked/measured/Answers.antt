@@ -1,5 +1,4 @@
 use native.Mathlib.Omega.{arith}
-use borrow.Author.Rules.{rules}
 use mathlib.Core.Path.{sym, ◌∙◌}
 use Rattle.weights.specs.laws.WeightLaws.{even_valid, total-is, largest-is}
 use Rattle.weights.proofs.checked.measured.Goals as goal

@@ -1,11 +1,6 @@
-use borrow.Author.Rules.{rules}
-use native.Mathlib.Omega.{arith}
-use native.Mathlib.Numerals.{add-one}
-use Prim.Native.Nat.{ℕ, ◌≤◌, ◌-◌}
+use Prim.Native.Nat.{◌≤◌, ◌-◌}
 use mathlib.Core.Path.{◌≡◌}
-use mathlib.Core.Path.{◌∙◌}
-use Rattle.choice.specs.Places.{stored_to}
-use Rattle.weights.specs.Weights.{weights_by, even_weights}
+use Rattle.weights.specs.Weights.{weights_by}
 use Rattle.weights.proofs.made.even_weights.Given as goal
 
 abbrev pub invariant-loop-k : goal.invariant-loop-k

@@ -1,10 +1,6 @@
-use borrow.Author.Rules.{rules}
-use native.Mathlib.Omega.{arith}
-use native.Mathlib.Numerals.{add-one}
-use Prim.Native.Nat.{ℕ, ◌≤◌, ◌-◌}
+use Prim.Native.Nat.{◌≤◌, ◌-◌}
 use mathlib.Core.Path.{◌≡◌}
-use Rattle.weights.specs.Weights.{weight_of, total_weight, largest_to, largest_weight}
-use Rattle.weights.specs.laws.WeightLaws.{largest_sum}
+use Rattle.weights.specs.Weights.{weight_of, largest_to}
 use Rattle.weights.proofs.sums.largest_weight.Given as goal
 
 abbrev pub invariant-loop-k : goal.invariant-loop-k

@@ -1,9 +1,8 @@
 use borrow.Author.Rules.{rules}
 use native.Mathlib.Omega.{arith}
 use native.Mathlib.Numerals.{add-one}
-use Prim.Native.Nat.{ℕ, ◌≤◌, ◌-◌}
+use Prim.Native.Nat.{ℕ}
 use mathlib.Core.Path.{◌≡◌}
-use Prim.Native.Nat.{◌*◌}
 use Rattle.choice.specs.Places.{sum_to}
 use Rattle.weights.specs.Weights.{weight_of, total_weight}
 use Rattle.weights.proofs.sums.total_weight.Goals as goal

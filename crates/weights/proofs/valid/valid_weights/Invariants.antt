@@ -1,10 +1,7 @@
-use borrow.Author.Rules.{rules}
-use native.Mathlib.Omega.{arith}
-use native.Mathlib.Numerals.{add-one}
-use Prim.Native.Nat.{ℕ, ◌≤◌, ◌-◌}
+use Prim.Native.Nat.{◌≤◌, ◌-◌}
 use mathlib.Core.Path.{◌≡◌}
 use Rattle.choice.specs.Places.{all_below}
-use Rattle.weights.specs.Weights.{weight_of, valid_weight, valid_weights}
+use Rattle.weights.specs.Weights.{weight_of, valid_weight}
 use Rattle.weights.proofs.valid.valid_weights.Given as goal
 
 abbrev pub invariant-loop-k : goal.invariant-loop-k

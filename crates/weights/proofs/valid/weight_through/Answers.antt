@@ -1,6 +1,4 @@
-use borrow.Author.Rules.{rules}
 use native.Mathlib.Omega.{arith}
-use borrow.Author.Rules.{rules}
 use mathlib.Core.Path.{sym}
 use Rattle.weights.specs.laws.WeightLaws.{below-valid, above-valid}
 use Rattle.weights.proofs.valid.weight_through.Goals as goal
