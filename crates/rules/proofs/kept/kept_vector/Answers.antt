@@ -1,4 +1,3 @@
-use borrow.Author.Rules.{rules}
 use Rattle.site.specs.Fields.{zero_vector}
 use Rattle.rules.specs.Rules.{kept_vector}
 use Rattle.rules.proofs.kept.kept_vector.Goals as goal

@@ -1,4 +1,3 @@
-use borrow.Author.Rules.{rules}
 use Rattle.site.specs.Fields.{with_up, with_coordinator, with_outcome, with_codes}
 use Rattle.site.specs.Records.{write_outcome, with_own, outcome_of, record_code}
 use Rattle.rules.specs.Rules.{restart, silent}

@@ -1,4 +1,3 @@
-use borrow.Author.Rules.{rules}
 use Rattle.rules.specs.Rules.{commanding, command_row}
 use Rattle.rules.proofs.send.commanding.Goals as goal
 

@@ -1,4 +1,3 @@
-use borrow.Author.Rules.{rules}
 use Rattle.rules.specs.Rules.{replying, reply_row, bringing}
 use Rattle.rules.proofs.send.replying.Goals as goal
 

@@ -1,4 +1,3 @@
-use borrow.Author.Rules.{rules}
 use Rattle.rules.specs.Rules.{silent}
 use Rattle.rules.proofs.send.silent.Goals as goal
 
