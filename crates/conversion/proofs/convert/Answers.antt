@@ -2,7 +2,6 @@ use native.Mathlib.Omega.{arith}
 use mathlib.Core.Path.{sym, ap, ◌∙◌}
 use Rattle.spelling.specs.WriteRead.{refuse}
 use Rattle.conversion.specs.laws.ConversionLaws.{convert-refused, convert-short, convert-done, converts}
-use borrow.Author.Rules.{rules}
 use Rattle.conversion.proofs.convert.Goals as goal
 
 pub returns-then-number-ne0 : goal.returns-then-number-ne0

@@ -1,6 +1,5 @@
 use Rattle.calls.specs.laws.CallLaws.{list_unfit_world, list_unfit_result, list_plays}
 use Rattle.calls.specs.Calls.{leave, leave_play}
-use borrow.Author.Rules.{rules}
 use Rattle.crossing.proofs.list_call.Goals as goal
 
 pub returns-then-world-ne-WORLD_BYTES : goal.returns-then-world-ne-WORLD_BYTES

@@ -1,9 +1,7 @@
 use Rattle.layout.proofs.laws.LayoutLaws.{inside-length}
 use mathlib.Core.Path.{sym, ◌∙◌}
-use borrow.Author.Tests.{not-true, not-false}
 use Rattle.calls.specs.Calls.{leave_buffer}
 use Rattle.calls.specs.laws.CallLaws.{report_17_result, report-17-world, report-17-number, report-not-written, report-accepted}
-use borrow.Author.Rules.{rules}
 use Rattle.crossing.proofs.report_call.Goals as goal
 
 pub returns-then-res-ne-RESULT_BYTES : goal.returns-then-res-ne-RESULT_BYTES

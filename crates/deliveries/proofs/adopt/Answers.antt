@@ -1,4 +1,3 @@
-use borrow.Author.Rules.{rules}
 use Rattle.rules.specs.Rules.{adopt}
 use Rattle.deliveries.proofs.adopt.Goals as goal
 

@@ -1,5 +1,4 @@
 use borrow.Author.Tests.{eq-eqb, ne_eqb}
-use borrow.Author.Rules.{rules}
 use Rattle.site.specs.Records.{write_outcome, outcome_of, record_code}
 use Rattle.rules.specs.Rules.{adopt_code}
 use Rattle.deliveries.proofs.adopt_code.Goals as goal

@@ -1,5 +1,4 @@
 use borrow.Author.Tests.{eq-eqb, ne_eqb}
-use borrow.Author.Rules.{rules}
 use Rattle.rules.specs.Rules.{answer, replying, after, silent, bringing}
 use Rattle.deliveries.proofs.answer.Goals as goal
 

@@ -1,5 +1,4 @@
 use mathlib.Core.Path.{sym, ◌∙◌}
-use borrow.Author.Rules.{rules}
 use Rattle.site.specs.Records.{join_group, group_of, record_code}
 use Rattle.rules.specs.Rules.{join_abort_in}
 use Rattle.deliveries.proofs.on_join_abort.Goals as goal

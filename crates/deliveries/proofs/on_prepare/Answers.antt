@@ -1,5 +1,4 @@
 use mathlib.Core.Path.{sym, ◌∙◌}
-use borrow.Author.Rules.{rules}
 use Rattle.site.specs.Records.{write_outcome, outcome_of, record_code}
 use Rattle.rules.specs.Rules.{vote_in}
 use Rattle.deliveries.proofs.on_prepare.Goals as goal

@@ -2,7 +2,6 @@ use native.Mathlib.Omega.{arith}
 use mathlib.Core.Path.{sym}
 use Rattle.layout.proofs.laws.LayoutLaws.{inside-length}
 use Rattle.layout.proofs.laws.ChangeLaws.{change_written}
-use borrow.Author.Rules.{rules}
 use Rattle.encode.proofs.put_change.Goals as goal
 
 pub put_number-requires : goal.put_number-requires

@@ -2,7 +2,6 @@ use Rattle.layout.specs.laws.NumberLaws.{put_number-length}
 use native.Mathlib.Omega.{arith}
 use lib.ListN.{length-set}
 use Rattle.layout.specs.Layout.{put_flags}
-use borrow.Author.Rules.{rules}
 use Rattle.encode.proofs.put_flags.Goals as goal
 
 pub bounds-bytes-at-2 : goal.bounds-bytes-at-2

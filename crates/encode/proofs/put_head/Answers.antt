@@ -1,5 +1,4 @@
 use Rattle.layout.specs.Layout.{put_head}
-use borrow.Author.Rules.{rules}
 use Rattle.encode.proofs.put_head.Goals as goal
 
 pub returns : goal.returns

@@ -1,5 +1,4 @@
 use Rattle.layout.specs.Layout.{put_site}
-use borrow.Author.Rules.{rules}
 use Rattle.encode.proofs.put_site.Goals as goal
 
 pub returns : goal.returns

@@ -1,7 +1,6 @@
 use native.Mathlib.Omega.{arith}
-use borrow.Author.Tests.{eq-eqb, ne_eqb, not-true, not-false}
+use borrow.Author.Tests.{eq-eqb, ne_eqb}
 use Rattle.layout.specs.Layout.{in_layout}
-use borrow.Author.Rules.{rules}
 use Rattle.inside.proofs.in_layout.Goals as goal
 
 pub returns-then-bytes-ne-WORLD_BYTES : goal.returns-then-bytes-ne-WORLD_BYTES

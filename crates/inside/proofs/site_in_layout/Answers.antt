@@ -1,6 +1,4 @@
-use borrow.Author.Tests.{not-true, not-false}
 use Rattle.layout.specs.Layout.{site_in_layout}
-use borrow.Author.Rules.{rules}
 use Rattle.inside.proofs.site_in_layout.Goals as goal
 
 pub returns-then-not-at_most : goal.returns-then-not-at_most

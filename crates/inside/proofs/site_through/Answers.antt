@@ -1,4 +1,3 @@
-use borrow.Author.Rules.{rules}
 use Rattle.inside.proofs.site_through.Goals as goal
 
 pub returns-then-before : goal.returns-then-before

@@ -1,9 +1,8 @@
 use mathlib.Core.Path.{sym, ◌∙◌}
-use borrow.Author.Tests.{not-true, not-false, eqb-true}
+use borrow.Author.Tests.{eqb-true}
 use Rattle.conversion.specs.Conversion.{convert}
 use Rattle.line_calls.specs.LineCalls.{leave_lines}
 use Rattle.line_calls.specs.laws.LineCallLaws.{lines_17, lines_left}
-use borrow.Author.Rules.{rules}
 use Rattle.line_calls.proofs.convert_call.Goals as goal
 
 pub returns-then-not-is_result : goal.returns-then-not-is_result

@@ -1,5 +1,4 @@
 use mathlib.Core.Path.{refl}
-use borrow.Author.Rules.{rules}
 use Rattle.line_calls.proofs.put_answer.Goals as goal
 
 pub returns : goal.returns

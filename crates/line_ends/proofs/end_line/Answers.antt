@@ -2,7 +2,6 @@ use Rattle.spelling.specs.LineReading.{end_line}
 use Rattle.command.specs.Commands.{found}
 use Rattle.text.specs.Text.{text}
 use mathlib.Core.Path.{sym, ◌∙◌}
-use borrow.Author.Rules.{rules}
 use Rattle.line_ends.proofs.end_line.Goals as goal
 
 pub returns-then-word_at : goal.returns-then-word_at

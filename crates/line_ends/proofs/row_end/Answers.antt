@@ -2,7 +2,6 @@ use Rattle.spelling.specs.LineReading.{row_end, site_end}
 use mathlib.Core.Path.{sym, ◌∙◌}
 use Rattle.text.specs.Text.{text}
 use Rattle.scan.specs.laws.ReadBack.{number_spelt, named_spelt}
-use borrow.Author.Rules.{rules}
 use Rattle.line_ends.proofs.row_end.Goals as goal
 
 pub returns-in_default : goal.returns-in_default

@@ -3,7 +3,6 @@ use mathlib.Core.Path.{◌≡◌, sym, ◌∙◌}
 use Rattle.scan.specs.declared.Numeral.TheVariants as Numeral·
 use Rattle.scan.specs.Scan.{number_at}
 use Rattle.scan.specs.laws.ReadBack.{number_spelt}
-use borrow.Author.Rules.{rules}
 use Rattle.line_ends.proofs.site_end.Goals as goal
 
 pub returns-in_default : goal.returns-in_default

@@ -1,10 +1,8 @@
 use Rattle.spelling.specs.LineReading.{header_numbers, read_header_line}
 use mathlib.Core.Path.{sym, ◌∙◌}
-use borrow.Author.Tests.{not-true, not-false}
 use native.Mathlib.Omega.{arith}
 use Rattle.text.specs.Text.{text}
 use Rattle.scan.specs.laws.ReadBack.{word_inside, named_spelt}
-use borrow.Author.Rules.{rules}
 use Rattle.line_reader.proofs.read_header_line.Goals as goal
 
 pub returns-in_default : goal.returns-in_default

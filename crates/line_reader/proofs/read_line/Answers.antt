@@ -3,7 +3,6 @@ use mathlib.Core.Path.{sym, ◌∙◌}
 use Rattle.command.specs.Commands.{found}
 use Rattle.command.specs.laws.TargetLaws.{target_command}
 use Rattle.text.specs.Text.{text}
-use borrow.Author.Rules.{rules}
 use Rattle.line_reader.proofs.read_line.Goals as goal
 
 pub returns-then-word_at : goal.returns-then-word_at

@@ -5,7 +5,6 @@ use borrow.Author.Tests.{lt-ltb}
 use Rattle.play.specs.Commands.{one_command}
 use Rattle.play.specs.Calls.{refuse}
 use Rattle.play.specs.Calls.{played_of}
-use borrow.Author.Rules.{rules}
 use Rattle.perform.proofs.one_command.Goals as goal
 
 -- src/perform.rt:55:9

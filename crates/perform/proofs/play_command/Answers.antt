@@ -1,11 +1,10 @@
 use native.Mathlib.Omega.{arith}
 use Prim.Native.Nat.{◌<◌}
-use lib.ListN.{length, length-map}
+use lib.ListN.{length}
 use Rattle.world.specs.Worlds.{with_site, with_rows, with_news}
 use Rattle.world.specs.laws.PartLaws.{site_of-within}
 use Rattle.play.specs.laws.Changes.{head_of, world_of, changed}
 use Rattle.play.specs.laws.CallLaws.{acts_played}
-use borrow.Author.Rules.{rules}
 use Rattle.perform.proofs.play_command.Goals as goal
 
 pub actor-own-requires : goal.actor-own-requires

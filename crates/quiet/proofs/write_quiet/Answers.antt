@@ -2,7 +2,6 @@ use native.Mathlib.Omega.{arith}
 use mathlib.Core.Path.{sym, ◌∙◌}
 use Rattle.spelling.specs.WriteRead.{refuse}
 use Rattle.quiet.specs.laws.QuietLaws.{quiet-number, quiet-sized, quiet_in-range, quiet_many, quiet-refused, quiet-room, quiet-done}
-use borrow.Author.Rules.{rules}
 use Rattle.quiet.proofs.write_quiet.Goals as goal
 
 pub returns-then-n-gt-SITES : goal.returns-then-n-gt-SITES

@@ -1,14 +1,9 @@
-use borrow.Author.Rules.{rules}
 use native.Mathlib.Omega.{arith}
 use mathlib.Core.Path.{sym, ◌∙◌}
-use lib.ListN.{length}
 use Rattle.spelling.specs.Spelling.{command_bytes}
-use Rattle.spelling.specs.LineReading.{read_line}
-use Rattle.spelling.specs.Script.{spelled_by}
-use Prim.Native.Nat.{◌+◌, ◌-◌, ◌≤◌}
+use Prim.Native.Nat.{◌-◌}
 use Rattle.command.specs.Commands.{refusal_of}
-use Rattle.spelling.specs.WriteRead.{text_script}
-use Rattle.spelling.specs.laws.LoopLaws.{Measuring, measuring-on, measuring-refused, measuring-ends}
+use Rattle.spelling.specs.laws.LoopLaws.{measuring-on, measuring-refused, measuring-ends}
 use Rattle.spelling.specs.laws.Measured.{measured-refused, measured-whole}
 use Rattle.read_lines.specs.laws.ReadLaws.{measured, refused-number, text_forward, bytes_behind, list-begins}
 use Rattle.read_lines.proofs.measure.Goals as goal

@@ -1,16 +1,10 @@
-use borrow.Author.Rules.{rules}
-use native.Mathlib.Omega.{arith}
-use mathlib.Core.Path.{sym, ◌∙◌}
 use lib.ListN.{length}
 use Rattle.spelling.specs.Spelling.{command_bytes}
 use Rattle.spelling.specs.LineReading.{read_line}
 use Rattle.spelling.specs.Script.{spelled_by}
 use Prim.Native.Nat.{◌-◌}
-use Rattle.text.specs.laws.Written.{joined, written-length}
-use Rattle.spelling.specs.WriteRead.{text_script, bytes_of}
-use Rattle.spelling.specs.laws.BytesBack.{list_length}
-use Rattle.spelling.specs.laws.LoopLaws.{Putting, left_end, left-refused, putting_begins, putting-on, putting-room, putting-ends, room_after}
-use Rattle.read_lines.specs.laws.ReadLaws.{line_at, text_forward}
+use Rattle.spelling.specs.WriteRead.{text_script}
+use Rattle.spelling.specs.laws.LoopLaws.{Putting}
 use Rattle.read_lines.proofs.put_list.Given as goal
 
 abbrev pub invariant-loop-at : goal.invariant-loop-at

@@ -3,7 +3,6 @@ use mathlib.Core.Path.{◌≡◌, sym, ap, ◌∙◌}
 use Rattle.spelling.specs.WriteRead.{refuse, read_commands}
 use Rattle.spelling.specs.laws.Measured.{stopped}
 use Rattle.read_lines.specs.laws.ReadLaws.{measured, measured-length, read-inside, read-stopped, read_number, read-room, read_done}
-use borrow.Author.Rules.{rules}
 use Rattle.read_lines.proofs.read_commands.Goals as goal
 
 pub measure-measured-requires : goal.measure-measured-requires

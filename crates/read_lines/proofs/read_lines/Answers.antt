@@ -3,7 +3,6 @@ use mathlib.Core.Path.{sym, ◌∙◌}
 use Rattle.spelling.specs.WriteRead.{refuse}
 use Rattle.spelling.specs.laws.LineBack.{header_line_spelt, header_line-longer}
 use Rattle.read_lines.specs.laws.ReadLaws.{lines_missing, lines-found}
-use borrow.Author.Rules.{rules}
 use Rattle.read_lines.proofs.read_lines.Goals as goal
 
 pub returns-in_default : goal.returns-in_default

@@ -1,7 +1,6 @@
 use borrow.Author.Tests.{lt-ltb, le-ltb}
 use Rattle.header.specs.Headers.{header_sizes, first_sizes}
 use Rattle.spelling.specs.WriteRead.{spelled_number}
-use borrow.Author.Rules.{rules}
 use Rattle.read_lines.proofs.spelled_number.Goals as goal
 
 pub returns-then-bytes-gt-LIST_BYTES : goal.returns-then-bytes-gt-LIST_BYTES

@@ -1,11 +1,8 @@
-use borrow.Author.Rules.{rules}
 use native.Mathlib.Omega.{arith}
-use Prim.Native.Nat.{◌+◌, ◌-◌, ◌^◌, ◌≤◌, ◌<◌}
-use mathlib.Core.Path.{◌≡◌, refl, sym, ◌∙◌}
-use lib.ListN.{length}
-use borrow.Author.Tests.{not-true, not-false}
-use Rattle.scan.specs.Scan.{digits_from, number}
-use Rattle.scan.specs.laws.NumberLaws.{digit_low, digit_inside, digits_nought, digits_end, digits_more, digits_all, digit_fits, digits_small}
+use Prim.Native.Nat.{◌-◌}
+use mathlib.Core.Path.{refl, sym, ◌∙◌}
+use Rattle.scan.specs.Scan.{number}
+use Rattle.scan.specs.laws.NumberLaws.{digit_low, digit_inside, digits_end, digits_more, digits_all, digit_fits, digits_small}
 use Rattle.scan.proofs.digits_from.Goals as goal
 
 pub loop-k-init : goal.loop-k-init

@@ -1,11 +1,7 @@
-use borrow.Author.Rules.{rules}
-use native.Mathlib.Omega.{arith}
 use Prim.Native.Nat.{◌+◌, ◌-◌, ◌^◌, ◌≤◌, ◌<◌}
-use mathlib.Core.Path.{◌≡◌, refl, sym, ◌∙◌}
+use mathlib.Core.Path.{◌≡◌}
 use lib.ListN.{length}
-use borrow.Author.Tests.{not-true, not-false}
-use Rattle.scan.specs.Scan.{digits_from, number}
-use Rattle.scan.specs.laws.NumberLaws.{digit_low, digit_inside, digits_nought, digits_end, digits_more, digits_all, digit_fits, digits_small}
+use Rattle.scan.specs.Scan.{digits_from}
 use Rattle.scan.proofs.digits_from.Given as goal
 
 abbrev pub invariant-loop-k : goal.invariant-loop-k

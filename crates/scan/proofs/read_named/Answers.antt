@@ -1,6 +1,4 @@
-use borrow.Author.Rules.{rules}
 use mathlib.Core.Path.{sym, ◌∙◌}
-use borrow.Author.Tests.{not-true, not-false}
 use Rattle.scan.specs.Scan.{named_at}
 use Rattle.scan.proofs.read_named.Goals as goal
 

@@ -1,7 +1,5 @@
-use borrow.Author.Rules.{rules}
 use native.Mathlib.Omega.{arith}
 use mathlib.Core.Path.{sym, ◌∙◌}
-use borrow.Author.Tests.{not-true, not-false}
 use Rattle.scan.specs.Scan.{number_at}
 use Rattle.scan.specs.laws.NumberLaws.{digit_low, digit_high, digit_inside, number-found, number_past}
 use Rattle.scan.proofs.read_number.Goals as goal

@@ -3,7 +3,6 @@ use native.Mathlib.Nat.{zero-add}
 use mathlib.Core.Path.{◌∙◌}
 use borrow.Author.Tests.{eq-eqb, ne_eqb}
 use Rattle.spelled_out.specs.Shown.{shown_buffer, shown_length}
-use borrow.Author.Rules.{rules}
 use Rattle.spelled_out.proofs.shown.Goals as goal
 
 pub returns-then-spelled-eq0 : goal.returns-then-spelled-eq0

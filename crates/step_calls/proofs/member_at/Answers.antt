@@ -1,5 +1,4 @@
 use Rattle.step_calls.specs.StepCalls.{member_at}
-use borrow.Author.Rules.{rules}
 use Rattle.step_calls.proofs.member_at.Goals as goal
 
 pub returns : goal.returns

@@ -2,7 +2,6 @@ use Rattle.layout.specs.laws.NumberLaws.{put_number-length}
 use native.Mathlib.Omega.{arith}
 use lib.ListN.{length-set}
 use Rattle.step_calls.specs.StepCalls.{put_logged}
-use borrow.Author.Rules.{rules}
 use Rattle.step_calls.proofs.put_logged.Goals as goal
 
 pub put_number-requires : goal.put_number-requires

@@ -1,9 +1,7 @@
 use native.Mathlib.Omega.{arith}
 use mathlib.Core.Path.{sym, ◌∙◌}
-use borrow.Author.Tests.{not-true, not-false}
 use Rattle.step_calls.specs.StepCalls.{leave_all}
 use Rattle.step_calls.specs.laws.StepCallLaws.{accepted_left, fits-long, each_left, call_unfit, call-refused, call-accepted}
-use borrow.Author.Rules.{rules}
 use Rattle.step_calls.proofs.step_call.Goals as goal
 
 pub returns-then-not-step_fits : goal.returns-then-not-step_fits

@@ -1,6 +1,5 @@
-use borrow.Author.Tests.{eq-eqb, ne_eqb, not-true, not-false}
+use borrow.Author.Tests.{eq-eqb, ne_eqb}
 use Rattle.step_calls.specs.StepCalls.{step_fits}
-use borrow.Author.Rules.{rules}
 use Rattle.step_calls.proofs.step_fits.Goals as goal
 
 pub returns-then-site-ne-SITE_BYTES : goal.returns-then-site-ne-SITE_BYTES

@@ -1,6 +1,5 @@
-use borrow.Author.Tests.{eq-eqb, ne_eqb, not-true, not-false}
+use borrow.Author.Tests.{eq-eqb, ne_eqb}
 use Rattle.step_calls.specs.StepCalls.{terms_in_layout}
-use borrow.Author.Rules.{rules}
 use Rattle.step_calls.proofs.terms_in_layout.Goals as goal
 
 pub returns-then-terms-ne-TERMS_BYTES : goal.returns-then-terms-ne-TERMS_BYTES

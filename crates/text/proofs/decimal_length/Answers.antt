@@ -1,7 +1,6 @@
 use native.Mathlib.Omega.{arith}
 use lib.ListN.{length-append}
 use Rattle.text.specs.Text.{decimal}
-use borrow.Author.Rules.{rules}
 use Rattle.text.proofs.decimal_length.Goals as goal
 
 pub returns : goal.returns

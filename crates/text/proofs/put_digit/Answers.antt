@@ -1,4 +1,3 @@
-use borrow.Author.Rules.{rules}
 use native.Mathlib.Omega.{arith}
 use Rattle.text.specs.laws.TextLaws.{digit_out, digit_in}
 use Rattle.text.proofs.put_digit.Goals as goal

@@ -1,4 +1,3 @@
-use borrow.Author.Rules.{rules}
 use Rattle.site.specs.Fields.{with_coordinator}
 use Rattle.rules.specs.Rules.{take_over, commanding}
 use Rattle.timeouts.proofs.take_over.Goals as goal

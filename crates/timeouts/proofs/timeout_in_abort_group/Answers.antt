@@ -1,4 +1,3 @@
-use borrow.Author.Rules.{rules}
 use Rattle.site.specs.Records.{write_outcome, outcome_of, record_code}
 use Rattle.rules.specs.Rules.{decide_abort, commanding}
 use Rattle.timeouts.proofs.timeout_in_abort_group.Goals as goal

@@ -1,5 +1,4 @@
 use borrow.Author.Tests.{eq-eqb, le-ltb, lt-ltb, ne_eqb}
-use borrow.Author.Rules.{rules}
 use Rattle.site.specs.Records.{join_group, group_of, record_code}
 use Rattle.rules.specs.Rules.{choose_group, commanding}
 use Rattle.timeouts.proofs.timeout_prepared.Goals as goal

@@ -1,16 +1,13 @@
-use borrow.Author.Rules.{rules}
 use native.Mathlib.Omega.{arith}
-use Prim.Native.Nat.{◌+◌, ◌*◌, ◌-◌, ◌≤◌}
+use Prim.Native.Nat.{◌-◌}
 use mathlib.Core.Path.{sym, ◌∙◌}
-use lib.ListN.{length}
-use Rattle.command.specs.Commands.{read_command, refusal_of}
+use Rattle.command.specs.Commands.{refusal_of}
 use Rattle.header.specs.laws.HeaderLaws.{first-headed}
 use Rattle.spelling.specs.Spelling.{command_line}
-use Rattle.spelling.specs.WriteRead.{list_script}
 use Rattle.spelling.specs.laws.BytesBack.{header_in_range, command-refused}
-use Rattle.write_lines.specs.laws.WriteLaws.{text_of, measured, command-at, list_forward, lines_begin}
+use Rattle.write_lines.specs.laws.WriteLaws.{measured, command-at, list_forward, lines_begin}
 use Rattle.spelling.specs.laws.Measured.{measured-refused, measured-whole}
-use Rattle.spelling.specs.laws.LoopLaws.{Measuring, measuring-on, measuring-refused, measuring-ends}
+use Rattle.spelling.specs.laws.LoopLaws.{measuring-on, measuring-refused, measuring-ends}
 use Rattle.write_lines.proofs.measure.Goals as goal
 
 pub header_line_length-length-requires : goal.header_line_length-length-requires

@@ -1,16 +1,10 @@
-use borrow.Author.Rules.{rules}
-use native.Mathlib.Omega.{arith}
 use Prim.Native.Nat.{◌+◌, ◌*◌, ◌-◌, ◌≤◌}
-use mathlib.Core.Path.{sym, ◌∙◌}
 use lib.ListN.{length}
-use Rattle.command.specs.Commands.{read_command, refusal_of}
-use Rattle.header.specs.laws.HeaderLaws.{first-headed}
+use Rattle.command.specs.Commands.{read_command}
 use Rattle.spelling.specs.Spelling.{command_line}
 use Rattle.spelling.specs.WriteRead.{list_script}
-use Rattle.spelling.specs.laws.BytesBack.{header_in_range, command-refused}
-use Rattle.write_lines.specs.laws.WriteLaws.{text_of, measured, command-at, list_forward, lines_begin}
-use Rattle.spelling.specs.laws.Measured.{measured-refused, measured-whole}
-use Rattle.spelling.specs.laws.LoopLaws.{Measuring, measuring-on, measuring-refused, measuring-ends}
+use Rattle.write_lines.specs.laws.WriteLaws.{text_of}
+use Rattle.spelling.specs.laws.LoopLaws.{Measuring}
 use Rattle.write_lines.proofs.measure.Given as goal
 
 abbrev pub invariant-loop-at : goal.invariant-loop-at

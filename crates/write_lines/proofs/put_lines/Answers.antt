@@ -1,16 +1,14 @@
-use borrow.Author.Rules.{rules}
 use native.Mathlib.Omega.{arith}
 use Prim.Native.Nat.{◌-◌}
 use mathlib.Core.Path.{sym, ◌∙◌}
-use lib.ListN.{length, length-append}
+use lib.ListN.{length-append}
 use Rattle.text.specs.laws.Written.{joined, written-length}
-use Rattle.command.specs.Commands.{read_command}
 use Rattle.header.specs.Headers.{first_header}
 use Rattle.spelling.specs.Spelling.{header_line, command_line}
 use Rattle.spelling.specs.Script.{spelled_by}
 use Rattle.spelling.specs.WriteRead.{list_script, lines_of}
 use Rattle.spelling.specs.laws.BytesBack.{header_in_range}
-use Rattle.spelling.specs.laws.LoopLaws.{Putting, left_end, left-refused, putting_begins, putting-on, putting-room, putting-ends, room_after}
+use Rattle.spelling.specs.laws.LoopLaws.{left_end, left-refused, putting_begins, putting-on, putting-room, putting-ends, room_after}
 use Rattle.write_lines.specs.laws.WriteLaws.{command-at, list_forward}
 use Rattle.write_lines.proofs.put_lines.Goals as goal
 

@@ -3,7 +3,6 @@ use mathlib.Core.Path.{◌≡◌, sym, ap, ◌∙◌}
 use Rattle.spelling.specs.WriteRead.{refuse, write_lines}
 use Rattle.spelling.specs.laws.Measured.{whole, stopped}
 use Rattle.write_lines.specs.laws.WriteLaws.{text_of, measured, write-inside, write-header, write-stopped, write-room, write_done}
-use borrow.Author.Rules.{rules}
 use Rattle.write_lines.proofs.write_lines.Goals as goal
 
 pub returns-then-number-ne0 : goal.returns-then-number-ne0

@@ -1,7 +1,6 @@
 use native.Mathlib.Omega.{arith}
 use Rattle.play.specs.laws.CallLaws.{acts_refused, acts_named, acts_unnamed}
 use Rattle.command.specs.Commands.{refusal_of}
-use borrow.Author.Rules.{rules}
 use Rattle.act.proofs.acts.act.Goals as goal
 
 -- src/acts.rt:72:24

@@ -2,7 +2,6 @@ use borrow.Author.Tests.{lt-ltb, le-ltb}
 use Rattle.play.specs.laws.CallLaws.{refused_acts}
 use Rattle.play.specs.Commands.{deliver_call}
 use Rattle.play.specs.laws.Changes.{Acts, world_of}
-use borrow.Author.Rules.{rules}
 use Rattle.act.proofs.commands.deliver.Goals as goal
 
 -- src/commands.rt:122:13

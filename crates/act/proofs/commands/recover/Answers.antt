@@ -3,7 +3,6 @@ use Rattle.play.specs.laws.CallLaws.{refused_acts}
 use borrow.Author.Tests.{lt-ltb}
 use Rattle.play.specs.Commands.{recover_call}
 use Rattle.play.specs.laws.Changes.{Acts, world_of}
-use borrow.Author.Rules.{rules}
 use Rattle.act.proofs.commands.recover.Goals as goal
 
 -- src/commands.rt:77:9

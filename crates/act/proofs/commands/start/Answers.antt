@@ -3,7 +3,6 @@ use Rattle.rules.specs.Rules.{start}
 use Rattle.play.specs.laws.CallLaws.{refused_acts}
 use Rattle.play.specs.Commands.{start_call}
 use Rattle.play.specs.laws.Changes.{Acts, world_of}
-use borrow.Author.Rules.{rules}
 use Rattle.act.proofs.commands.start.Goals as goal
 
 -- src/commands.rt:18:28

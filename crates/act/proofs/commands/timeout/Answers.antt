@@ -3,7 +3,6 @@ use Rattle.play.specs.laws.CallLaws.{refused_acts}
 use borrow.Author.Tests.{lt-ltb}
 use Rattle.play.specs.Commands.{timeout_call}
 use Rattle.play.specs.laws.Changes.{Acts, world_of}
-use borrow.Author.Rules.{rules}
 use Rattle.act.proofs.commands.timeout.Goals as goal
 
 -- src/commands.rt:41:13

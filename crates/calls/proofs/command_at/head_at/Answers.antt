@@ -1,6 +1,5 @@
 use Rattle.play.specs.laws.Changes.{head_of}
 use Rattle.layout.specs.Layout.{world_at}
-use borrow.Author.Rules.{rules}
 use Rattle.calls.proofs.command_at.head_at.Goals as goal
 
 pub returns : goal.returns

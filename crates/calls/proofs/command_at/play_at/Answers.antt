@@ -2,7 +2,6 @@ use native.Mathlib.Omega.{arith}
 use Rattle.layout.proofs.laws.LayoutLaws.{inside-length}
 use Rattle.calls.specs.Calls.{leave}
 use Rattle.calls.specs.laws.CommandLaws.{playable_ready, change_refused, change_accepted}
-use borrow.Author.Rules.{rules}
 use Rattle.calls.proofs.command_at.play_at.Goals as goal
 
 pub head_at-head-requires : goal.head_at-head-requires

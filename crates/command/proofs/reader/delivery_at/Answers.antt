@@ -1,4 +1,3 @@
-use borrow.Author.Rules.{rules}
 use Rattle.command.specs.Commands.{delivery}
 use Rattle.command.proofs.reader.delivery_at.Goals as goal
 

@@ -3,7 +3,6 @@ use native.Mathlib.Omega.{arith}
 use Prim.Native.Nat.{◌+◌, ◌<◌, ◌≤◌}
 use lib.ListN.{length}
 use Rattle.command.specs.Commands.{read_target}
-use borrow.Author.Rules.{rules}
 use Rattle.command.proofs.reader.read_target.Goals as goal
 
 -- src/reader.rt:85:8

@@ -1,4 +1,3 @@
-use borrow.Author.Rules.{rules}
 use Rattle.command.specs.Commands.{refusal_of}
 use Rattle.command.proofs.reader.refusal_of.Goals as goal
 

@@ -1,4 +1,3 @@
-use borrow.Author.Rules.{rules}
 use Rattle.command.specs.Commands.{target}
 use Rattle.command.proofs.reader.target_at.Goals as goal
 

@@ -2,7 +2,6 @@ use native.Mathlib.Omega.{arith}
 use mathlib.Core.Path.{sym, ap, ◌∙◌}
 use Rattle.header.specs.laws.HeaderLaws.{headed}
 use Rattle.conversion.specs.laws.ConversionLaws.{carried, carried-whole, carried-sized, back-length, forward_length}
-use borrow.Author.Rules.{rules}
 use Rattle.conversion.proofs.editions.converted_length.Goals as goal
 
 pub overflow_sub-after : goal.overflow_sub-after

@@ -1,6 +1,5 @@
 use native.Mathlib.Omega.{arith}
 use Rattle.conversion.specs.laws.ConversionLaws.{carried-whole, carried_in_range, converted_length_lem, carried-room, carried-written}
-use borrow.Author.Rules.{rules}
 use Rattle.conversion.proofs.editions.put_converted.Goals as goal
 
 pub put_other-at-requires : goal.put_other-at-requires

@@ -1,9 +1,7 @@
-use borrow.Author.Rules.{rules}
 use native.Mathlib.Omega.{arith}
-use Prim.Native.Nat.{◌+◌, ◌-◌, ◌≤◌}
+use Prim.Native.Nat.{◌-◌}
 use mathlib.Core.Path.{◌≡◌, refl, ◌∙◌}
-use lib.ListN.{length, replicate}
-use Rattle.text.specs.laws.Written.{Written, nothing, written-length}
+use Rattle.text.specs.laws.Written.{nothing, written-length}
 use Rattle.conversion.specs.laws.ConversionLaws.{ones-more}
 use Rattle.conversion.proofs.editions.put_ones.Goals as goal
 

@@ -1,10 +1,7 @@
-use borrow.Author.Rules.{rules}
-use native.Mathlib.Omega.{arith}
 use Prim.Native.Nat.{◌+◌, ◌-◌, ◌≤◌}
-use mathlib.Core.Path.{◌≡◌, refl, ◌∙◌}
+use mathlib.Core.Path.{◌≡◌}
 use lib.ListN.{length, replicate}
-use Rattle.text.specs.laws.Written.{Written, nothing, written-length}
-use Rattle.conversion.specs.laws.ConversionLaws.{ones-more}
+use Rattle.text.specs.laws.Written.{Written}
 use Rattle.conversion.proofs.editions.put_ones.Given as goal
 
 abbrev pub invariant-loop-k : goal.invariant-loop-k

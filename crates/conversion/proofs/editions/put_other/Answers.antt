@@ -2,7 +2,6 @@ use native.Mathlib.Omega.{arith}
 use Rattle.conversion.specs.laws.ConversionLaws.{second-length}
 use Rattle.spelling.specs.Spelling.{header_bytes}
 use Rattle.conversion.specs.Conversion.{other_bytes}
-use borrow.Author.Rules.{rules}
 use Rattle.conversion.proofs.editions.put_other.Goals as goal
 
 pub put_header-requires : goal.put_header-requires

@@ -1,6 +1,5 @@
 use Rattle.text.specs.laws.Written.{joined}
 use Rattle.conversion.specs.Conversion.{second_bytes}
-use borrow.Author.Rules.{rules}
 use Rattle.conversion.proofs.editions.put_second.Goals as goal
 
 pub returns : goal.returns

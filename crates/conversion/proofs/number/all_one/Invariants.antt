@@ -1,12 +1,8 @@
-use borrow.Author.Rules.{rules}
-use native.Mathlib.Omega.{arith}
-use native.Mathlib.Numerals.{add-one}
-use Prim.Native.Nat.{ℕ, ◌≤◌, ◌-◌}
+use Prim.Native.Nat.{◌≤◌, ◌-◌}
 use mathlib.Core.Path.{◌≡◌}
 use lib.Dec.{eqb}
 use Rattle.choice.specs.Places.{all_below}
 use Rattle.weights.specs.Weights.{weight_of}
-use Rattle.conversion.specs.Conversion.{all_one}
 use Rattle.conversion.proofs.number.all_one.Given as goal
 
 abbrev pub invariant-loop-k : goal.invariant-loop-k

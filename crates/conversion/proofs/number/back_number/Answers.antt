@@ -1,7 +1,6 @@
 use native.Mathlib.Omega.{arith}
 use mathlib.Core.Path.{sym, ap, ◌∙◌}
 use Rattle.conversion.specs.laws.NumberLaws.{accepted-high, back-header, back-ones}
-use borrow.Author.Rules.{rules}
 use Rattle.conversion.proofs.number.back_number.Goals as goal
 
 pub returns-then-number-ne0 : goal.returns-then-number-ne0

@@ -1,6 +1,5 @@
 use mathlib.Core.Path.{sym, ◌∙◌}
 use Rattle.conversion.specs.laws.NumberLaws.{convert_edition, convert-long, convert-fits}
-use borrow.Author.Rules.{rules}
 use Rattle.conversion.proofs.number.convert_number.Goals as goal
 
 pub returns-then-number-ne0 : goal.returns-then-number-ne0

@@ -1,6 +1,5 @@
 use mathlib.Core.Path.{sym, ◌∙◌}
 use Rattle.conversion.specs.Conversion.{edition_number}
-use borrow.Author.Rules.{rules}
 use Rattle.conversion.proofs.number.edition_number.Goals as goal
 
 pub returns-then-is_second : goal.returns-then-is_second

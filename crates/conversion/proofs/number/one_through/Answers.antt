@@ -1,4 +1,3 @@
-use borrow.Author.Rules.{rules}
 use Rattle.conversion.proofs.number.one_through.Goals as goal
 
 pub returns-then-before : goal.returns-then-before

@@ -1,5 +1,4 @@
 use Rattle.layout.specs.Layout.{site_at}
-use borrow.Author.Rules.{rules}
 use Rattle.decode.proofs.read.site_at.Goals as goal
 
 pub returns : goal.returns

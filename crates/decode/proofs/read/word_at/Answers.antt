@@ -1,5 +1,4 @@
 use Rattle.word.specs.Words.{word_at}
-use borrow.Author.Rules.{rules}
 use Rattle.decode.proofs.read.word_at.Goals as goal
 
 pub returns : goal.returns

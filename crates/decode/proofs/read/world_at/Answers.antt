@@ -1,5 +1,4 @@
 use Rattle.layout.specs.Layout.{world_at}
-use borrow.Author.Rules.{rules}
 use Rattle.decode.proofs.read.world_at.Goals as goal
 
 pub returns : goal.returns

@@ -1,4 +1,3 @@
-use borrow.Author.Rules.{rules}
 use mathlib.Core.Path.{sym, ◌∙◌}
 use Rattle.world.specs.laws.SizesLaws.{sites_fit_lem}
 use Rattle.decode.specs.laws.ValidLaws.{unfit_sites, bad_sites, good-sites}

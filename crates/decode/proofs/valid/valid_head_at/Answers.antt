@@ -1,4 +1,3 @@
-use borrow.Author.Rules.{rules}
 use Rattle.decode.specs.laws.ValidLaws.{head_at}
 use Rattle.decode.proofs.valid.valid_head_at.Goals as goal
 

@@ -1,9 +1,8 @@
 use borrow.Author.Rules.{rules}
 use native.Mathlib.Omega.{arith}
-use Prim.Native.Nat.{ℕ, ◌≤◌, ◌-◌}
+use Prim.Native.Nat.{ℕ, ◌-◌}
 use mathlib.Core.Path.{◌≡◌}
 use Rattle.world.specs.Valid.{valid_sites}
-use Rattle.layout.specs.Layout.{world_at}
 use Rattle.decode.specs.laws.ValidLaws.{sites_through}
 use Rattle.decode.proofs.valid.valid_sites_at.Goals as goal
 

@@ -1,10 +1,7 @@
-use borrow.Author.Rules.{rules}
-use native.Mathlib.Omega.{arith}
-use Prim.Native.Nat.{ℕ, ◌≤◌, ◌-◌}
+use Prim.Native.Nat.{◌≤◌, ◌-◌}
 use mathlib.Core.Path.{◌≡◌}
 use Rattle.world.specs.Valid.{valid_sites}
 use Rattle.layout.specs.Layout.{world_at}
-use Rattle.decode.specs.laws.ValidLaws.{sites_through}
 use Rattle.decode.proofs.valid.valid_sites_at.Given as goal
 
 abbrev pub invariant-loop-k : goal.invariant-loop-k

@@ -1,5 +1,4 @@
 use mathlib.Core.Path.{sym, ◌∙◌}
-use borrow.Author.Rules.{rules}
 use Rattle.site.specs.Records.{join_group, group_of, record_code}
 use Rattle.rules.specs.Rules.{join_commit_in}
 use Rattle.deliveries.proofs.join_commit.on_join_commit.Goals as goal

@@ -1,4 +1,3 @@
-use borrow.Author.Rules.{rules}
 use Rattle.header.specs.Headers.{first_header}
 use Rattle.header.proofs.editions.first_header.Goals as goal
 

@@ -1,4 +1,3 @@
-use borrow.Author.Rules.{rules}
 use Rattle.header.specs.Headers.{second_header, header_of, header_length}
 use Rattle.header.proofs.editions.header_length.Goals as goal
 

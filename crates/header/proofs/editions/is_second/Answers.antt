@@ -1,4 +1,3 @@
-use borrow.Author.Rules.{rules}
 use Rattle.header.specs.Headers.{is_second}
 use Rattle.header.proofs.editions.is_second.Goals as goal
 

@@ -1,4 +1,3 @@
-use borrow.Author.Rules.{rules}
 use Rattle.header.specs.Headers.{header_of}
 use Rattle.header.proofs.editions.read_header.Goals as goal
 

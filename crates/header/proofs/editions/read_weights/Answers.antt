@@ -1,4 +1,3 @@
-use borrow.Author.Rules.{rules}
 use Rattle.header.specs.Headers.{header_weights}
 use Rattle.header.proofs.editions.read_weights.Goals as goal
 

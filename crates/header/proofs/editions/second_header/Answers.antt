@@ -1,4 +1,3 @@
-use borrow.Author.Rules.{rules}
 use Rattle.header.specs.Headers.{second_header}
 use Rattle.header.proofs.editions.second_header.Goals as goal
 

@@ -1,4 +1,3 @@
-use borrow.Author.Rules.{rules}
 use Rattle.word.specs.Words.{word_at}
 use Rattle.header.proofs.editions.word_in.Goals as goal
 

@@ -1,4 +1,3 @@
-use borrow.Author.Rules.{rules}
 use mathlib.Core.Path.{sym, ◌∙◌}
 use Rattle.header.specs.Headers.{header_sizes, first_sizes}
 use Rattle.header.specs.laws.HeaderLaws.{first_short, first-whole}

@@ -1,4 +1,3 @@
-use borrow.Author.Rules.{rules}
 use mathlib.Core.Path.{ap, sym, ◌∙◌}
 use Rattle.header.specs.Headers.{header_sizes}
 use Rattle.header.specs.laws.HeaderLaws.{header-short, header_cut, header-whole}

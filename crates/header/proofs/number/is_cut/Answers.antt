@@ -1,4 +1,3 @@
-use borrow.Author.Rules.{rules}
 use Rattle.header.specs.Headers.{is_cut}
 use Rattle.header.proofs.number.is_cut.Goals as goal
 

@@ -1,5 +1,4 @@
 use Rattle.layout.specs.Layout.{group_byte}
-use borrow.Author.Rules.{rules}
 use Rattle.layout.proofs.values.group_byte.Goals as goal
 
 pub returns-in-None : goal.returns-in-None

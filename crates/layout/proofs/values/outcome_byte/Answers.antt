@@ -1,5 +1,4 @@
 use Rattle.layout.specs.Layout.{outcome_byte}
-use borrow.Author.Rules.{rules}
 use Rattle.layout.proofs.values.outcome_byte.Goals as goal
 
 pub returns-in-None : goal.returns-in-None

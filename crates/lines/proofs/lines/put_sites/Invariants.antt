@@ -1,12 +1,8 @@
-use borrow.Author.Rules.{rules}
-use native.Mathlib.Omega.{arith}
-use native.Mathlib.Numerals.{add-one}
-use Prim.Native.Nat.{ℕ, ◌+◌, ◌*◌, ◌≤◌, ◌-◌}
+use Prim.Native.Nat.{◌+◌, ◌*◌, ◌≤◌, ◌-◌}
 use mathlib.Core.Path.{◌≡◌}
 use lib.ListN.{length}
-use Rattle.text.specs.laws.Written.{Written, joined, nothing}
+use Rattle.text.specs.laws.Written.{Written}
 use Rattle.lines.specs.Lines.{site_lines}
-use Rattle.lines.specs.laws.LineLaws.{SmallSizes, small-sizes, site-codes}
 use Rattle.lines.proofs.lines.put_sites.Given as goal
 
 abbrev pub invariant-loop-k : goal.invariant-loop-k

@@ -1,4 +1,3 @@
-use borrow.Author.Rules.{rules}
 use Rattle.text.specs.Text.{text}
 use Rattle.lines.specs.Lines.{group_letter}
 use Rattle.lines.proofs.log.group_letter.Goals as goal

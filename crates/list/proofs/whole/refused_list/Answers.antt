@@ -1,4 +1,3 @@
-use borrow.Author.Rules.{rules}
 use Rattle.list.proofs.whole.refused_list.Goals as goal
 
 pub returns : goal.returns

@@ -1,5 +1,4 @@
 use Rattle.member.specs.Claims.{new_group}
-use borrow.Author.Rules.{rules}
 use Rattle.member_step.proofs.answers.new_group.Goals as goal
 
 pub returns-in-None : goal.returns-in-None

@@ -1,5 +1,4 @@
 use Rattle.member.specs.Claims.{new_log}
-use borrow.Author.Rules.{rules}
 use Rattle.member_step.proofs.answers.new_log.Goals as goal
 
 pub returns : goal.returns

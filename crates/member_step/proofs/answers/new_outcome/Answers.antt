@@ -1,5 +1,4 @@
 use Rattle.member.specs.Claims.{new_outcome}
-use borrow.Author.Rules.{rules}
 use Rattle.member_step.proofs.answers.new_outcome.Goals as goal
 
 pub returns-in-None : goal.returns-in-None

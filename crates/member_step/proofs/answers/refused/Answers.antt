@@ -1,5 +1,4 @@
 use Rattle.member.specs.Steps.{refuse, nothing, logged, taken_of}
-use borrow.Author.Rules.{rules}
 use Rattle.member_step.proofs.answers.refused.Goals as goal
 
 pub returns : goal.returns

@@ -1,5 +1,4 @@
 use Rattle.member_step.specs.laws.TakenLaws.{taken_step}
-use borrow.Author.Rules.{rules}
 use Rattle.member_step.proofs.answers.taken.Goals as goal
 
 pub returns : goal.returns

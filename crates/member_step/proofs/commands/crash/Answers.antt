@@ -1,6 +1,5 @@
 use Rattle.member.specs.Steps.{crash_step}
 use Rattle.member_step.specs.laws.TakenLaws.{crash-taken}
-use borrow.Author.Rules.{rules}
 use Rattle.member_step.proofs.commands.crash.Goals as goal
 
 pub returns-then-site : goal.returns-then-site

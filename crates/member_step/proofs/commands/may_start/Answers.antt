@@ -1,7 +1,6 @@
 use borrow.Author.Tests.{eq-eqb, ne_eqb}
 use mathlib.Core.Path.{ap, ◌∙◌}
 use Rattle.site.specs.State.{is_active}
-use borrow.Author.Rules.{rules}
 use Rattle.member_step.proofs.commands.may_start.Goals as goal
 
 pub returns-then-own-eq0 : goal.returns-then-own-eq0

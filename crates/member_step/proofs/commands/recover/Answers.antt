@@ -1,6 +1,5 @@
 use Rattle.member.specs.Steps.{recover_step}
 use Rattle.member_step.specs.laws.TakenLaws.{recover-taken}
-use borrow.Author.Rules.{rules}
 use Rattle.member_step.proofs.commands.recover.Goals as goal
 
 pub returns-then-site : goal.returns-then-site

@@ -1,6 +1,5 @@
 use Rattle.member.specs.Steps.{timeout_step}
 use Rattle.member_step.specs.laws.TakenLaws.{timeout-taken}
-use borrow.Author.Rules.{rules}
 use Rattle.member_step.proofs.commands.timeout.Goals as goal
 
 pub returns-then-site : goal.returns-then-site

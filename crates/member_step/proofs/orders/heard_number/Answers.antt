@@ -1,5 +1,4 @@
 use Rattle.member.specs.Orders.{heard_number}
-use borrow.Author.Rules.{rules}
 use Rattle.member_step.proofs.orders.heard_number.Goals as goal
 
 pub returns-in-Refused : goal.returns-in-Refused

@@ -1,7 +1,6 @@
 use mathlib.Core.Path.{◌≡◌, ap, sym, ◌∙◌}
 use Rattle.member.specs.Orders.{order_of, read_order, heard_number}
 use Rattle.member_step.specs.laws.OrderLaws.{first_byte, heard_number_lem}
-use borrow.Author.Rules.{rules}
 use Rattle.member_step.proofs.orders.read_order.Goals as goal
 
 pub returns : goal.returns

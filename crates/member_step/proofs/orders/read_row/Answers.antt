@@ -1,6 +1,5 @@
 use borrow.Author.Tests.{lt-ltb, le-ltb}
 use Rattle.member.specs.Orders.{read_row}
-use borrow.Author.Rules.{rules}
 use Rattle.member_step.proofs.orders.read_row.Goals as goal
 
 pub returns-then-bytes-lt21 : goal.returns-then-bytes-lt21

@@ -1,7 +1,6 @@
 use Rattle.member.specs.Orders.{row_in}
 use Rattle.member.specs.Steps.{step_by}
 use Rattle.member_step.specs.laws.OrderLaws.{delivery-room}
-use borrow.Author.Rules.{rules}
 use Rattle.member_step.proofs.steps.perform.Goals as goal
 
 pub row_at-requires : goal.row_at-requires

@@ -1,5 +1,4 @@
 use Rattle.member.specs.laws.StepLaws.{valid-few}
-use borrow.Author.Tests.{not-true, not-false}
 use mathlib.Core.Path.{sym, ◌∙◌}
 use Rattle.member.specs.Steps.{site_step}
 use Rattle.member_step.specs.laws.HeardLaws.{step-refused, step_ordered, step_outside}

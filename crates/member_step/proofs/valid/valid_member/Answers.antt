@@ -3,7 +3,6 @@ use mathlib.Core.Path.{sym, ◌∙◌}
 use borrow.Author.Tests.{eq-eqb, ne_eqb, lt-ltb, le-ltb}
 use Rattle.world.specs.laws.SizesLaws.{sized}
 use Rattle.member.specs.Steps.{valid_member}
-use borrow.Author.Rules.{rules}
 use Rattle.member_step.proofs.valid.valid_member.Goals as goal
 
 pub returns-then-sizes_number-ne0 : goal.returns-then-sizes_number-ne0

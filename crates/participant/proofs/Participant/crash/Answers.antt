@@ -1,4 +1,3 @@
-use borrow.Author.Rules.{rules}
 use Rattle.site.specs.Fields.{with_up, with_coordinator, with_codes}
 use Rattle.rules.specs.Rules.{crash, silent}
 use Rattle.participant.proofs.Participant.crash.Goals as goal

@@ -1,4 +1,3 @@
-use borrow.Author.Rules.{rules}
 use Rattle.site.specs.Fields.{with_codes}
 use Rattle.rules.specs.Rules.{adopt, hear, after_hearing, deliver}
 use Rattle.participant.proofs.Participant.deliver.Goals as goal

@@ -1,4 +1,3 @@
-use borrow.Author.Rules.{rules}
 use Rattle.site.specs.Fields.{with_up}
 use Rattle.rules.specs.Rules.{recover, silent}
 use Rattle.participant.proofs.Participant.recover.Goals as goal

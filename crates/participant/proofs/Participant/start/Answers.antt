@@ -1,4 +1,3 @@
-use borrow.Author.Rules.{rules}
 use Rattle.site.specs.Fields.{with_coordinator, with_prepared, with_codes, with_outcome}
 use Rattle.site.specs.Records.{write_prepare, write_outcome, with_own, outcome_of, record_code}
 use Rattle.rules.specs.Rules.{start, commanding, command_row}

@@ -1,4 +1,3 @@
-use borrow.Author.Rules.{rules}
 use mathlib.Core.Path.{refl}
 use Rattle.play.specs.laws.Changes.{entered_change}
 use Rattle.play.proofs.entry.entered.Goals as goal

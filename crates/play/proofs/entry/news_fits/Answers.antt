@@ -1,4 +1,3 @@
-use borrow.Author.Rules.{rules}
 use Rattle.play.specs.laws.CallLaws.{fits-by-room}
 use Rattle.play.proofs.entry.news_fits.Goals as goal
 

@@ -1,5 +1,4 @@
 use Rattle.play.specs.laws.Changes.{named_site}
-use borrow.Author.Rules.{rules}
 use Rattle.play.proofs.named.named_site.Goals as goal
 
 -- src/acts.rt:23:27

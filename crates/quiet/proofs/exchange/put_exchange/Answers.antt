@@ -1,6 +1,5 @@
 use native.Mathlib.Omega.{arith}
 use Rattle.quiet.specs.laws.QuietLaws.{exchanged}
-use borrow.Author.Rules.{rules}
 use Rattle.quiet.proofs.exchange.put_exchange.Goals as goal
 
 pub returns : goal.returns

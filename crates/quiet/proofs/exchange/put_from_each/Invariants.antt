@@ -1,14 +1,9 @@
-use borrow.Author.Rules.{rules}
-use native.Mathlib.Omega.{arith}
 use Prim.Native.Nat.{◌+◌, ◌*◌, ◌-◌, ◌≤◌}
-use mathlib.Core.Path.{◌≡◌, refl, ◌∙◌}
+use mathlib.Core.Path.{◌≡◌}
 use lib.ListN.{length}
-use Rattle.text.specs.laws.Written.{Written, nothing, written-length}
-use Rattle.spelling.specs.Spelling.{command_bytes}
-use Rattle.spelling.specs.Ranges.{InRange}
-use Rattle.spelling.specs.Script.{spelled_by}
-use Rattle.quiet.specs.Quiet.{row_to, from_each}
-use Rattle.quiet.specs.laws.QuietLaws.{bytes, from_more}
+use Rattle.text.specs.laws.Written.{Written}
+use Rattle.quiet.specs.Quiet.{from_each}
+use Rattle.quiet.specs.laws.QuietLaws.{bytes}
 use Rattle.quiet.proofs.exchange.put_from_each.Given as goal
 
 abbrev pub invariant-loop-k : goal.invariant-loop-k

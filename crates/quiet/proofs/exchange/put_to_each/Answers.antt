@@ -1,14 +1,12 @@
-use borrow.Author.Rules.{rules}
 use native.Mathlib.Omega.{arith}
-use Prim.Native.Nat.{◌+◌, ◌*◌, ◌-◌, ◌≤◌}
+use Prim.Native.Nat.{◌-◌}
 use mathlib.Core.Path.{◌≡◌, refl, ◌∙◌}
-use lib.ListN.{length}
-use Rattle.text.specs.laws.Written.{Written, nothing, written-length}
+use Rattle.text.specs.laws.Written.{nothing, written-length}
 use Rattle.spelling.specs.Spelling.{command_bytes}
 use Rattle.spelling.specs.Ranges.{InRange}
 use Rattle.spelling.specs.Script.{spelled_by}
 use Rattle.quiet.specs.Quiet.{row_to, to_each}
-use Rattle.quiet.specs.laws.QuietLaws.{bytes, to-more}
+use Rattle.quiet.specs.laws.QuietLaws.{to-more}
 use Rattle.quiet.proofs.exchange.put_to_each.Goals as goal
 
 pub loop-k-init : goal.loop-k-init

@@ -1,4 +1,3 @@
-use borrow.Author.Rules.{rules}
 use native.Mathlib.Omega.{arith}
 use Rattle.text.specs.laws.Written.{joined}
 use Rattle.report.specs.Report.{report_text}

@@ -1,6 +1,5 @@
 use Rattle.spelling.specs.Spelling.{command_bytes}
 use native.Mathlib.Omega.{arith}
-use borrow.Author.Rules.{rules}
 use Rattle.spelling.proofs.bytes.command_length.Goals as goal
 
 pub returns-in-Start : goal.returns-in-Start

@@ -1,7 +1,6 @@
 use Rattle.spelling.specs.Spelling.{command_bytes}
 use native.Mathlib.Omega.{arith}
 use Rattle.spelling.specs.Ranges.{InRange}
-use borrow.Author.Rules.{rules}
 use Rattle.spelling.proofs.bytes.put_command.Goals as goal
 
 pub put_byte-requires : goal.put_byte-requires

@@ -1,6 +1,5 @@
 use Rattle.text.specs.laws.Written.{joined}
 use Rattle.spelling.specs.Spelling.{command_bytes}
-use borrow.Author.Rules.{rules}
 use Rattle.spelling.proofs.bytes.put_delivery.Goals as goal
 
 pub returns : goal.returns

@@ -1,6 +1,5 @@
 use Rattle.text.specs.laws.Written.{joined}
 use Rattle.spelling.specs.Spelling.{header_bytes}
-use borrow.Author.Rules.{rules}
 use Rattle.spelling.proofs.bytes.put_header.Goals as goal
 
 pub returns : goal.returns

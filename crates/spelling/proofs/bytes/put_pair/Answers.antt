@@ -1,6 +1,5 @@
 use Rattle.text.specs.laws.Written.{joined}
 use native.Mathlib.Omega.{arith}
-use borrow.Author.Rules.{rules}
 use Rattle.spelling.proofs.bytes.put_pair.Goals as goal
 
 pub returns : goal.returns

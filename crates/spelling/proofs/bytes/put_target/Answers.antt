@@ -1,5 +1,4 @@
 use Rattle.text.specs.laws.Written.{joined}
-use borrow.Author.Rules.{rules}
 use Rattle.spelling.proofs.bytes.put_target.Goals as goal
 
 pub returns : goal.returns

@@ -2,7 +2,6 @@ use native.Mathlib.Omega.{arith}
 use lib.ListN.{length-append}
 use Rattle.text.specs.Text.{text, named}
 use Rattle.spelling.specs.Spelling.{command_line}
-use borrow.Author.Rules.{rules}
 use Rattle.spelling.proofs.line.line_length.Goals as goal
 
 pub returns-in-Start : goal.returns-in-Start

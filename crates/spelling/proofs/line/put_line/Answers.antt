@@ -2,7 +2,6 @@ use mathlib.Core.Path.{sym}
 use lib.Seq.{length-take-le}
 use Rattle.text.specs.laws.Written.{written-length, written_front}
 use native.Mathlib.Omega.{arith}
-use borrow.Author.Rules.{rules}
 use Rattle.spelling.proofs.line.put_line.Goals as goal
 
 pub slice_bounds-put_word-end : goal.slice_bounds-put_word-end

@@ -2,7 +2,6 @@ use Rattle.spelling.specs.Spelling.{command_line}
 use native.Mathlib.Omega.{arith}
 use Rattle.spelling.specs.Ranges.{InRange}
 use Rattle.text.specs.Text.{text, named}
-use borrow.Author.Rules.{rules}
 use Rattle.spelling.proofs.line.spell_command.Goals as goal
 
 pub spell_delivery-requires : goal.spell_delivery-requires

@@ -2,7 +2,6 @@ use Rattle.text.specs.laws.Written.{joined}
 use native.Mathlib.Omega.{arith}
 use Rattle.text.specs.Text.{text, named}
 use Rattle.spelling.specs.Spelling.{command_line}
-use borrow.Author.Rules.{rules}
 use Rattle.spelling.proofs.line.spell_delivery.Goals as goal
 
 pub returns : goal.returns

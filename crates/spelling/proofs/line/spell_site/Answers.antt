@@ -1,7 +1,6 @@
 use Rattle.text.specs.laws.Written.{joined}
 use native.Mathlib.Omega.{arith}
 use Rattle.text.specs.Text.{text}
-use borrow.Author.Rules.{rules}
 use Rattle.spelling.proofs.line.spell_site.Goals as goal
 
 pub returns : goal.returns

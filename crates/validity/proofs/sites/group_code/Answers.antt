@@ -1,5 +1,4 @@
 use Rattle.validity.specs.laws.LimitLaws.{group_code}
-use borrow.Author.Rules.{rules}
 use Rattle.validity.proofs.sites.group_code.Goals as goal
 
 pub returns-in-None : goal.returns-in-None

@@ -1,7 +1,6 @@
 use Rattle.choice.specs.Places.{stored_to}
 use Rattle.validity.specs.laws.Limits.{limits_to}
 use Rattle.validity.specs.laws.LimitLaws.{group_limits}
-use borrow.Author.Rules.{rules}
 use Rattle.validity.proofs.sites.group_limits.Goals as goal
 
 pub returns-in-None : goal.returns-in-None

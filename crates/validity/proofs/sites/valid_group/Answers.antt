@@ -1,5 +1,4 @@
 use Rattle.validity.specs.laws.LimitLaws.{valid_group-by}
-use borrow.Author.Rules.{rules}
 use Rattle.validity.proofs.sites.valid_group.Goals as goal
 
 pub returns : goal.returns

@@ -1,4 +1,3 @@
-use borrow.Author.Rules.{rules}
 use Rattle.validity.proofs.sites.valid_own.Goals as goal
 
 pub returns-then-valid_within : goal.returns-then-valid_within

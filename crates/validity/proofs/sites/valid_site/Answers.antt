@@ -1,5 +1,4 @@
 use Rattle.validity.specs.laws.LimitLaws.{valid_site-by}
-use borrow.Author.Rules.{rules}
 use Rattle.validity.proofs.sites.valid_site.Goals as goal
 
 pub returns-then-valid_own : goal.returns-then-valid_own

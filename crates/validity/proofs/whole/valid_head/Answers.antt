@@ -1,5 +1,4 @@
 use borrow.Author.Tests.{eq-eqb, ne_eqb, le-leb, lt-leb}
-use borrow.Author.Rules.{rules}
 use Rattle.validity.proofs.whole.valid_head.Goals as goal
 
 pub returns-then-sizes_number-ne0 : goal.returns-then-sizes_number-ne0

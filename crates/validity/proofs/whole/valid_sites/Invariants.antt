@@ -1,12 +1,6 @@
-use borrow.Author.Rules.{rules}
-use native.Mathlib.Omega.{arith}
-use native.Mathlib.Numerals.{add-one}
-use Prim.Native.Nat.{ℕ, ◌≤◌, ◌<◌, ◌-◌}
-use mathlib.Core.Path.{◌≡◌, ap, ◌∙◌}
-use lib.ListN.{length, length-map}
-use Rattle.choice.specs.Choice.{both}
-use Rattle.world.specs.Valid.{valid_site, valid_sites}
-use Rattle.world.specs.laws.PartLaws.{site_of-within}
+use Prim.Native.Nat.{◌≤◌, ◌-◌}
+use mathlib.Core.Path.{◌≡◌}
+use Rattle.world.specs.Valid.{valid_sites}
 use Rattle.validity.proofs.whole.valid_sites.Given as goal
 
 abbrev pub invariant-loop-k : goal.invariant-loop-k

@@ -1,7 +1,4 @@
-use borrow.Author.Rules.{rules}
 use native.Mathlib.Omega.{arith}
-use Prim.Native.Nat.{◌<◌}
-use lib.ListN.{length, length-map}
 use Rattle.world.specs.laws.PartLaws.{site_of-within}
 use Rattle.world.proofs.World.site.Goals as goal
 

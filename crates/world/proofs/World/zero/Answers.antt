@@ -1,4 +1,3 @@
-use borrow.Author.Rules.{rules}
 use Rattle.world.specs.Worlds.{zero_world, fresh_sites}
 use Rattle.world.proofs.World.zero.Goals as goal
 

@@ -1,9 +1,6 @@
-use borrow.Author.Rules.{rules}
-use native.Mathlib.Omega.{arith}
-use native.Mathlib.Numerals.{add-one}
-use Prim.Native.Nat.{ℕ, ◌≤◌, ◌-◌}
+use Prim.Native.Nat.{◌≤◌, ◌-◌}
 use mathlib.Core.Path.{◌≡◌}
-use Rattle.world.specs.Worlds.{fresh_sites, down_sites}
+use Rattle.world.specs.Worlds.{fresh_sites}
 use Rattle.world.proofs.fresh.fresh_sites.Given as goal
 
 abbrev pub invariant-loop-k : goal.invariant-loop-k
