@@ -1,0 +1,13 @@
+use native.Mathlib.Omega.{arith}
+use mathlib.Core.Path.{sym}
+use lib.Seq.{length-take-le}
+use Rattle.from_lines.proofs.main.Goals as goal
+
+pub shown-k-requires : goal.shown-k-requires
+shown-k-requires c = (omega (arith, c.read-spelled.ensures.length_in_bounds.0), omega (arith, c.read-spelled.ensures.length_in_bounds.1), omega arith)
+
+pub slice_bounds-list-end : goal.slice_bounds-list-end
+slice_bounds-list-end c = omega (arith, c.shown-k.ensures.upper_bound)
+
+pub slice_bounds-write_all-end : goal.slice_bounds-write_all-end
+slice_bounds-write_all-end c = sym (length-take-le c.shown-k.result c.shown-k.new.buffer (omega (arith, c.shown-k.ensures.upper_bound)))
