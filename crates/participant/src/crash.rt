@@ -21,6 +21,7 @@ impl Participant {
     }
 
     // With an empty log an aborted subordinate; with any record up, and nothing else.
+    #[tactic(auto, using(choice::specs::laws::ChoiceLaws::tests), unfolding(rules::specs::Rules::recover, rules::specs::Rules::silent, site::specs::Fields::with_up))]
     pub fn recover(mut self) -> Step
         requires { self.own < 16 }
         ensures { result ≡ (recover self.own self.site).step }

@@ -17,6 +17,7 @@ pub fn take_over(kind: u8, own: usize, n: usize, mut site: Site) -> Step
     commanding(kind, own, n, site)
 }
 
+#[tactic(auto, using(choice::specs::laws::ChoiceLaws::tests), unfolding(rules::specs::Rules::choose_group, rules::specs::Rules::commanding, site::specs::Records::join_group, site::specs::Records::group_of, site::specs::Records::record_code))]
 pub fn timeout_prepared(own: usize, n: usize, site: Site) -> Step
     requires { (n ≤ 16) × (own < n) }
     ensures { result ≡ (pick site.coordinator (choose_group own n site) (take_over 1 own n site)).step }
