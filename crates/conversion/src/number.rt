@@ -57,6 +57,7 @@ fn edition_number(list: &[u8]) -> u8
 }
 
 // The number of the first refusal, or 0.
+#[tactic(auto, using(crate::specs::laws::NumberLaws::lengths))]
 pub fn convert_number(list: &[u8]) -> u8
     ensures { result ≡ convert_number list.now }
 {

@@ -69,6 +69,7 @@ fn sites_in_layout(bytes: &[u8]) -> bool
 }
 
 // Any bytes of any length.
+#[tactic(auto, using(choice::specs::laws::ChoiceLaws::tests), unfolding(layout::specs::Layout::in_layout))]
 pub fn in_layout(bytes: &[u8]) -> bool
     ensures inside { result ≡ in_layout bytes.now }
     ensures bytes { (i : ℕ) → get_or bytes.now i 0 < 256 }

@@ -38,6 +38,7 @@ fn measure(text: &[u8], from: usize) -> Spelled
 }
 
 // 1, or 3 to 5, of a list of so many bytes with this header; 0 for none.
+#[tactic(auto, using(choice::specs::laws::ChoiceLaws::tests), unfolding(spelling::specs::WriteRead::spelled_number))]
 fn spelled_number(header: Header, bytes: usize) -> u8
     ensures { result ≡ spelled_number header bytes }
 {

@@ -35,6 +35,7 @@ fn write_text(world: World, events: usize, number: usize, place: usize, buffer: 
 }
 
 // THE REPORT: the text from the buffer's beginning, or 17 or 18 and the buffer untouched.
+#[tactic(auto, using(crate::specs::laws::ReportLaws::rooms), unfolding(crate::specs::Report::untouched))]
 pub fn write_report(
     world: World,
     events: usize,

@@ -55,6 +55,9 @@ module _ (list : List ℕ) where
   unfolding convert_number
   convert-fits e fits = rw (eq-eqb (edition_number list) 0 e, le-ltb list_bytes (length (converted list)) fits)
 
+-- the laws by which the code's test of the length settles the number
+pub ruleset lengths = (convert-long, convert-fits)
+
 -- none of them is 20
 
 abbrev Not20 : ℕ → Type 0

@@ -44,6 +44,9 @@ pub report-short :
 unfolding report
 report-short w events number place b e h = rw (e, lt-ltb (length b) 1024 h)
 
+-- the law by which the code's test of the buffer's length settles the report
+pub ruleset rooms = (report-short)
+
 -- what the report leaves, beside a text that was written from the buffer's beginning
 unfoldable pub accepted : ℕ → List ℕ → Report
 accepted length after = record { reported = record { number = 0; length = length }; buffer = after }
