@@ -1,10 +1,8 @@
 use mathlib.Core.Path.{sym, ◌∙◌}
-use borrow.Author.Tests.{not-true, not-false}
 use Rattle.layout.proofs.laws.LayoutLaws.{inside-length}
 use Rattle.calls.specs.Calls.{leave}
 use Rattle.calls.specs.laws.CallLaws.{command_16, command-17-result, command-17-world}
 use Rattle.calls.specs.laws.CommandLaws.{command_17_valid}
-use borrow.Author.Rules.{rules}
 use Rattle.quorum.proofs.qc_play_command.Goals as goal
 
 pub returns-then-store-lt-STORE_BYTES : goal.returns-then-store-lt-STORE_BYTES
