@@ -6,6 +6,7 @@ use list::ListPlayed;
 use word::wide;
 
 // A number of length or header.
+#[tactic(auto, using(choice::specs::laws::ChoiceLaws::tests), unfolding(crate::specs::Shown::is_header_number))]
 fn is_header_number(number: u8) -> bool
     ensures { result ≡ is_header_number number }
 {
