@@ -7,6 +7,7 @@ ghost use Rattle.calls.specs.Calls.{list_call, report_call};
 use calls::{RESULT_BYTES, number_of, unfit_number};
 
 // A whole list.
+#[tactic(auto, using(calls::specs::laws::CallLaws::list_unfit_world), unfolding(calls::specs::Calls::leave))]
 pub fn list_call(list: &[u8], store: &mut [u8], world: &mut [u8], res: &mut [u8]) -> u32
     ensures value { result ≡ (list_call list.now store.old world.old res.old).number }
     ensures store_after { store.new ≡ (list_call list.now store.old world.old res.old).store }
@@ -28,6 +29,7 @@ pub fn list_call(list: &[u8], store: &mut [u8], world: &mut [u8], res: &mut [u8]
 }
 
 // The report.
+#[tactic(auto, using(calls::specs::laws::CallLaws::numbers), unfolding(calls::specs::Calls::leave_buffer))]
 pub fn report_call(
     world: &[u8],
     events: usize,

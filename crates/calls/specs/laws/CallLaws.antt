@@ -152,3 +152,6 @@ module _ (world : List ℕ) (events number place : ℕ) (buffer result : List �
     report-accepted inside accepted =
         rw
         (report-writes inside, eq-eqb (report (world_at world) events number place buffer).reported.number 0 accepted)
+
+-- the law by which the code's test of a stop number settles the report's call
+pub ruleset numbers = (report-17-number)

@@ -1,7 +1,7 @@
 use Rattle.layout.proofs.laws.LayoutLaws.{inside-length}
 use mathlib.Core.Path.{sym, ◌∙◌}
 use Rattle.calls.specs.Calls.{leave_buffer}
-use Rattle.calls.specs.laws.CallLaws.{report_17_result, report-17-world, report-17-number, report-not-written, report-accepted}
+use Rattle.calls.specs.laws.CallLaws.{report_17_result, report-17-world, report-not-written, report-accepted}
 use Rattle.crossing.proofs.report_call.Goals as goal
 
 pub returns-then-res-ne-RESULT_BYTES : goal.returns-then-res-ne-RESULT_BYTES
@@ -11,10 +11,6 @@ returns-then-res-ne-RESULT_BYTES c = let e = report_17_result c.args.world.now c
 pub returns-then-not-in_layout : goal.returns-then-not-in_layout
 unfolding leave_buffer
 returns-then-not-in_layout c = let e = report-17-world c.args.world.now c.args.events c.args.number c.args.place c.args.buffer.now c.args.res.now c.if-res-ne-RESULT_BYTES.false (sym c.in_layout.ensures.inside ∙ c.if-not-in_layout.true) in record { value = rw e; buffer_after = rw e; res_after = rw e }
-
-pub returns-then-number-gt-LAST_NUMBER : goal.returns-then-number-gt-LAST_NUMBER
-unfolding leave_buffer
-returns-then-number-gt-LAST_NUMBER c = let e = report-17-number c.args.world.now c.args.events c.args.number c.args.place c.args.buffer.now c.args.res.now c.if-res-ne-RESULT_BYTES.false (sym c.in_layout.ensures.inside ∙ c.if-not-in_layout.false) c.if-number-gt-LAST_NUMBER.true in record { value = rw e; buffer_after = rw e; res_after = rw e }
 
 pub world_at-before-requires : goal.world_at-before-requires
 world_at-before-requires c = inside-length c.args.world.now (sym c.in_layout.ensures.inside ∙ c.if-not-in_layout.false)

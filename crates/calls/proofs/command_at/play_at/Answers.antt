@@ -31,4 +31,4 @@ put_number-requires c = omega (arith, c.requires.eight)
 
 pub returns : goal.returns
 unfolding leave
-returns c = let e = change_accepted c.args.world.now c.args.store.now c.args.list.now c.args.at c.args.res.now c.read_command-reading.result c.head_at-head.result c.actor-own.result c.site_at-site.result c.act-change.result c.act-change.new.store c.requires c.read_command-reading.ensures.0 c.head_at-head.ensures c.actor-own.ensures.0 (omega (arith, c.actor-own.ensures.1, (playable_ready _ _ _ _ c.requires c.head_at-head.ensures).high)) (rw c.site_place.ensures.0 at c.site_at-site.ensures) c.act-change.ensures c.if-change-ne0.false in record { value = rw e; store_after = rw e; world_after = rw e c.put_change.ensures; res_after = rw e c.put_number.ensures }
+returns c = let e = change_accepted c.args.world.now c.args.store.now c.args.list.now c.args.at c.args.res.now c.read_command-reading.result c.head_at-head.result c.actor-own.result c.site_at-site.result c.act-change.result c.act-change.new.store c.requires c.read_command-reading.ensures.0 c.head_at-head.ensures c.actor-own.ensures.0 (omega (arith, c.actor-own.ensures.1, (playable_ready _ _ _ _ c.requires c.head_at-head.ensures).high)) (rw c.site_place.ensures.0 at c.site_at-site.ensures) c.act-change.ensures (omega arith) in record { value = rw e; store_after = rw e; world_after = rw e c.put_change.ensures; res_after = rw e c.put_number.ensures }
