@@ -33,6 +33,7 @@ fn play_command(world: World, store: &mut [u8], list: &[u8], at: usize) -> Playe
 }
 
 // One command on any world, any store, any list, any place.
+#[tactic(auto, using(choice::specs::laws::ChoiceLaws::tests), unfolding(play::specs::Commands::one_command, play::specs::Calls::played_of, play::specs::Calls::refuse))]
 pub fn one_command(world: World, store: &mut [u8], list: &[u8], at: usize) -> Played
     ensures played { result ≡ played_of (one_command world store.old list.now at) }
     ensures stored { store.new ≡ (one_command world store.old list.now at).store }
