@@ -30,12 +30,12 @@ all: $(library) $(step_library) target/quorum
 
 # rt lib proves the crates below, lowest first, and keeps their proofs; the second archive after the first, since both need the same crates
 $(library): $(proved)
-	cd crates/quorum && $(RT) lib
+	cd crates/quorum_c && $(RT) lib
 	mkdir -p target/staticlib
-	cp crates/quorum/out/libquorum.a $@
+	cp crates/quorum_c/out/libquorum_c.a $@
 $(step_library): $(proved) | $(library)
-	cd crates/quorum_step && $(RT) lib
-	cp crates/quorum_step/out/libquorum_step.a $@
+	cd crates/quorum_step_c && $(RT) lib
+	cp crates/quorum_step_c/out/libquorum_step_c.a $@
 
 target/quorum: $(wildcard tools/*.c tools/*.h) $(headers) $(library)
 	$(CC) -std=c99 -Wall -Wextra $(CFLAGS) $(LDFLAGS) $(wildcard tools/*.c) $(library) -o $@

@@ -1,4 +1,4 @@
-// The calls offered to C, on byte slices and numbers. docs/LAYOUT.md has the bytes; include/quorum.h says how to call.
+// The calls offered to C, on byte slices and numbers; `quorum_c` exports them. docs/LAYOUT.md has the bytes; include/quorum.h says how to call.
 #![tactic(auto)]
 
 ghost use Rattle.std.specs.Prelude.{◌≡◌};
@@ -12,13 +12,7 @@ use calls::RESULT_BYTES;
 use world::World;
 
 // A whole list.
-#[unsafe(no_mangle)]
-pub extern "C" fn qc_play_list(
-    list: &[u8],
-    store: &mut [u8],
-    world: &mut [u8],
-    res: &mut [u8],
-) -> u32
+pub fn qc_play_list(list: &[u8], store: &mut [u8], world: &mut [u8], res: &mut [u8]) -> u32
     ensures value { result ≡ (list_call list.now store.old world.old res.old).number }
     ensures store_after { store.new ≡ (list_call list.now store.old world.old res.old).store }
     ensures world_after { world.new ≡ (list_call list.now store.old world.old res.old).world }
@@ -28,8 +22,7 @@ pub extern "C" fn qc_play_list(
 }
 
 // One command.
-#[unsafe(no_mangle)]
-pub extern "C" fn qc_play_command(
+pub fn qc_play_command(
     world: &mut [u8],
     store: &mut [u8],
     list: &[u8],
@@ -57,8 +50,7 @@ pub extern "C" fn qc_play_command(
 }
 
 // The report.
-#[unsafe(no_mangle)]
-pub extern "C" fn qc_report(
+pub fn qc_report(
     world: &[u8],
     events: usize,
     number: u32,
@@ -74,8 +66,7 @@ pub extern "C" fn qc_report(
 }
 
 // A list as lines.
-#[unsafe(no_mangle)]
-pub extern "C" fn qc_write_lines(list: &[u8], buffer: &mut [u8], res: &mut [u8]) -> u32
+pub fn qc_write_lines(list: &[u8], buffer: &mut [u8], res: &mut [u8]) -> u32
     ensures value { result ≡ (lines_call (write_lines list.now) buffer.old res.old).number }
     ensures buffer_after { buffer.new ≡ (lines_call (write_lines list.now) buffer.old res.old).buffer }
     ensures res_after { res.new ≡ (lines_call (write_lines list.now) buffer.old res.old).result }
@@ -84,8 +75,7 @@ pub extern "C" fn qc_write_lines(list: &[u8], buffer: &mut [u8], res: &mut [u8])
 }
 
 // Lines as a list.
-#[unsafe(no_mangle)]
-pub extern "C" fn qc_read_lines(text: &[u8], buffer: &mut [u8], res: &mut [u8]) -> u32
+pub fn qc_read_lines(text: &[u8], buffer: &mut [u8], res: &mut [u8]) -> u32
     ensures value { result ≡ (lines_call (read_lines text.now) buffer.old res.old).number }
     ensures buffer_after { buffer.new ≡ (lines_call (read_lines text.now) buffer.old res.old).buffer }
     ensures res_after { res.new ≡ (lines_call (read_lines text.now) buffer.old res.old).result }
@@ -94,8 +84,7 @@ pub extern "C" fn qc_read_lines(text: &[u8], buffer: &mut [u8], res: &mut [u8]) 
 }
 
 // A list in the other edition.
-#[unsafe(no_mangle)]
-pub extern "C" fn qc_convert(list: &[u8], buffer: &mut [u8], res: &mut [u8]) -> u32
+pub fn qc_convert(list: &[u8], buffer: &mut [u8], res: &mut [u8]) -> u32
     ensures value { result ≡ (lines_call (convert list.now) buffer.old res.old).number }
     ensures buffer_after { buffer.new ≡ (lines_call (convert list.now) buffer.old res.old).buffer }
     ensures res_after { res.new ≡ (lines_call (convert list.now) buffer.old res.old).result }
@@ -104,8 +93,7 @@ pub extern "C" fn qc_convert(list: &[u8], buffer: &mut [u8], res: &mut [u8]) -> 
 }
 
 // The list of a quiet day.
-#[unsafe(no_mangle)]
-pub extern "C" fn qc_write_quiet(
+pub fn qc_write_quiet(
     n: usize,
     commit: usize,
     abort: usize,

@@ -6,14 +6,7 @@ ghost use Rattle.std.specs.Prelude.{◌≡◌};
 ghost use Rattle.step_calls.specs.StepCalls.{step_call};
 
 // One site's step.
-#[unsafe(no_mangle)]
-pub extern "C" fn qc_step(
-    terms: &[u8],
-    site: &mut [u8],
-    command: &[u8],
-    row: &mut [u8],
-    res: &mut [u8],
-) -> u32
+pub fn qc_step(terms: &[u8], site: &mut [u8], command: &[u8], row: &mut [u8], res: &mut [u8]) -> u32
     ensures value { result ≡ (step_call terms.now site.old command.now row.old res.old).number }
     ensures site_after { site.new ≡ (step_call terms.now site.old command.now row.old res.old).site }
     ensures row_after { row.new ≡ (step_call terms.now site.old command.now row.old res.old).row }
