@@ -1,45 +1,86 @@
 // What was read, acted out on the one site that it names.
-ghost use Rattle.std.specs.Prelude.{◌≡◌, ◌<◌};
-ghost use Rattle.play.specs.laws.Changes.{Ready, Acts, named_site, actor};
+ghost use Rattle.std.specs.Prelude.{◌≡◌, ℕ, ◌<◌};
+ghost use Rattle.command.specs.Readings.{Reading};
+ghost use Rattle.participant.specs.Turns.{turned, moved};
+ghost use Rattle.play.specs.laws.Changes.{Ready, Acts, named_site, actor, change_of, entry_of};
 ghost use Rattle.play.specs.Commands.{perform, perform_read};
+ghost use Rattle.act.specs.Turns.{delivery_turn, turn_of};
 
-use crate::commands::{crash, deliver, recover, start, timeout};
-use command::{Command, Reading};
-use play::{Change, Head, named_site, refused};
+use command::{Command, Delivery, Parsed};
+use participant::Participant;
+use play::{Change, Head, enter, named_site};
+use refusals::{Reason, Refusal};
+use rules::Step;
 use site::Site;
+
+#[tactic(auto, using(choice::specs::laws::ChoiceLaws::tests), unfolding(crate::specs::Turns::delivery_turn))]
+fn deliver(delivery: Delivery, head: Head, store: &[u8], site: Site) -> Result<Step, Reason>
+    requires { Ready head store.now × (delivery.site < head.sizes.n) }
+    ensures { turned result ≡ moved (delivery_turn delivery head store.now site) }
+{
+    if head.rows <= delivery.row {
+        return Err(Reason::NoSuchRow);
+    }
+    let own = delivery.site;
+    let willing = bits::has_bit(head.sizes.willing, own);
+    let n = head.sizes.n;
+    Participant { own, n, site }.try_deliver(willing, row::get_row(store, delivery.row))
+}
+
+// What the command makes its site do.
+#[tactic(auto, unfolding(crate::specs::Turns::turn_of, play::specs::laws::Changes::named_site))]
+fn turn(command: Command, head: Head, store: &[u8], site: Site) -> Result<Step, Reason>
+    requires { Ready head store.now × (named_site command < head.sizes.n) }
+    ensures { turned result ≡ moved (turn_of command head store.now site) }
+{
+    let own = named_site(command);
+    let n = head.sizes.n;
+    let participant = Participant { own, n, site };
+    match command {
+        Command::Start => participant.try_start(bits::has_bit(head.sizes.willing, 0)),
+        Command::Deliver(delivery) => deliver(delivery, head, store, site),
+        Command::Timeout(_) => {
+            let weights = head.sizes.weights;
+            participant.try_timeout(weights, head.sizes.commit, head.sizes.abort)
+        }
+        Command::Crash(_) => participant.try_crash(),
+        Command::Recover(_) => participant.try_recover(),
+    }
+}
 
 fn perform(
     command: Command,
     head: Head,
     store: &mut [u8],
-    at: usize,
     next: usize,
     site: Site,
-) -> Change
-    requires { Ready head store.old × (named_site command < head.n) }
-    ensures { Acts head (named_site command) site result store.new (λ w. perform command w store.old at next) }
+) -> Result<Change, Reason>
+    requires { Ready head store.old × (named_site command < head.sizes.n) }
+    ensures { (at : ℕ) → Acts head (named_site command) site (entry_of head at site result) store.new (λ w. perform command w store.old at next) }
 {
-    match command {
-        Command::Start => start(head, store, at, next, site),
-        Command::Deliver(d) => deliver(head, store, at, next, d.row, d.site, site),
-        Command::Timeout(t) => timeout(head, store, at, next, t.site, site),
-        Command::Crash(t) => crash(head, store, at, next, t.site, site),
-        Command::Recover(t) => recover(head, store, at, next, t.site, site),
-    }
+    let step = turn(command, head, store, site)?;
+    enter(head, store, next, step)
 }
 
 // What was read at a place, in a world that 17 need not be asked of, with the site that it acts on.
-pub fn act(reading: Reading, head: Head, site: Site, store: &mut [u8], at: usize) -> Change
+pub fn act(
+    reading: Result<Parsed, Refusal>,
+    head: Head,
+    site: Site,
+    store: &mut [u8],
+    at: usize,
+) -> Result<Change, Refusal>
     requires { Ready head store.old }
-    ensures { Acts head (actor reading head.n) site result store.new (λ w. perform_read reading w store.old at) }
+    ensures { Acts head (actor reading head.sizes.n) site (change_of head site result) store.new (λ w. perform_read reading w store.old at) }
 {
-    let Reading::Found(parsed) = reading else {
-        let refusal = command::refusal_of(reading);
-        return refused(refusal.number, head, refusal.place, site);
+    let Ok(parsed) = reading else {
+        return Err(reading.unwrap_err());
     };
-    let command = parsed.command;
-    if named_site(command) < head.n {
-        return perform(command, head, store, at, parsed.next, site);
+    if head.sizes.n <= named_site(parsed.command) {
+        return Err(Reason::NoSuchSite.at(at));
     }
-    refused(8, head, at, site)
+    match perform(parsed.command, head, store, parsed.next, site) {
+        Ok(change) => Ok(change),
+        Err(reason) => Err(reason.at(at)),
+    }
 }

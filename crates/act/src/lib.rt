@@ -2,6 +2,5 @@
 #![tactic(auto)]
 
 mod acts;
-mod commands;
 
 pub use acts::act;

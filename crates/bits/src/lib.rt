@@ -1,4 +1,5 @@
 // Sets of sites as bits.
+// Numbers, as lists, rows and the layout have them; docs/05-quiet-day.md names two of these functions.
 #![tactic(auto)]
 
 ghost use Rattle.std.specs.Prelude.{◌≡◌, ◌^◌, ◌≤◌, ◌<◌};

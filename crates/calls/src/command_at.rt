@@ -1,27 +1,21 @@
 // One command on a world that lies in bytes: one site is read, and that site, the row count and the news are written back.
+// Its form is that of the call: buffers of C, a place in the list, an answer as a number.
 ghost use Rattle.std.specs.Prelude.{◌≡◌, ◌≤◌, length};
 ghost use Rattle.play.specs.laws.Changes.{head_of};
 ghost use Rattle.layout.specs.Layout.{world_at};
 ghost use Rattle.calls.specs.Calls.{command_call};
 ghost use Rattle.calls.specs.laws.CommandLaws.{Playable};
 
-use crate::numbers::number_of;
 use play::Head;
-use site::{AbortQuorum, CommitQuorum};
-use word::wide;
 
 // The world without its sites.
+#[tactic(auto, unfolding(play::specs::laws::Changes::head_of, layout::specs::Layout::world_at))]
 fn head_at(world: &[u8]) -> Head
     requires { 672 ≤ length world.now }
     ensures { result ≡ head_of (world_at world.now) }
 {
-    let weights = code_bytes::get_codes(world, 16);
     Head {
-        n: wide(world[1]),
-        commit: CommitQuorum(decode::word_at(world, 2)),
-        abort: AbortQuorum(decode::word_at(world, 4)),
-        willing: decode::word_at(world, 6),
-        weights,
+        sizes: decode::sizes_at(world),
         rows: decode::word_at(world, 8),
         news: decode::long_at(world, 10),
     }
@@ -37,14 +31,14 @@ pub fn play_at(world: &mut [u8], store: &mut [u8], list: &[u8], at: usize, res: 
 {
     let reading = command::read_command(list, at);
     let head = head_at(world);
-    let own = play::actor(reading, head.n);
+    let own = play::actor(reading, head.sizes.n);
     let site = decode::site_at(world, layout::site_place(own));
-    let change = act::act(reading, head, site, store, at);
-    if change.number != 0 {
-        return number_of(change.number);
+    match act::act(reading, head, site, store, at) {
+        Ok(change) => {
+            encode::put_change(world, own, change.site, change.rows, change.news);
+            encode::put_number(res, 0, 8, change.next);
+            0
+        }
+        Err(refusal) => u32::from(refusal.reason),
     }
-    let after = change.site;
-    encode::put_change(world, own, after, change.rows, change.news);
-    encode::put_number(res, 0, 8, change.place);
-    0
 }

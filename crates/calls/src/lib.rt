@@ -5,7 +5,7 @@ mod command_at;
 mod numbers;
 
 pub use command_at::play_at;
-pub use numbers::{number_of, unfit_number};
+pub use numbers::unfit_number;
 
 // The length of every result buffer.
 pub const RESULT_BYTES: usize = 8;

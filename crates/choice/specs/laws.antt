@@ -1,3 +1,5 @@
+pub mod EachPlace
 pub mod Cases
 pub mod ChoiceLaws
 pub mod Stores
+pub mod Chains

@@ -1,4 +1,5 @@
 // Sixteen codes in a buffer, one byte a code.
+// Any bytes, since worlds and rows come with any; slice and place are plain, since docs/TRUST.md names both functions.
 #![tactic(auto)]
 
 ghost use Rattle.std.specs.Prelude.{◌≡◌, ◌+◌, ◌≤◌, length};
@@ -9,11 +10,7 @@ pub fn put_codes(bytes: &mut [u8], at: usize, codes: [u8; 16])
     requires { at + 16 ≤ length bytes.old }
     ensures { bytes.new ≡ put_codes 16 bytes.old at codes }
 {
-    let mut k = 0;
-    while k < 16 {
-        bytes[at + k] = codes[k];
-        k += 1;
-    }
+    bytes[at..at + 16].copy_from_slice(&codes);
 }
 
 // Sixteen codes read from a place on.
@@ -22,10 +19,6 @@ pub fn get_codes(bytes: &[u8], at: usize) -> [u8; 16]
     ensures { result ≡ codes_from 16 bytes.now at }
 {
     let mut codes = [0; 16];
-    let mut k = 0;
-    while k < 16 {
-        codes[k] = bytes[at + k];
-        k += 1;
-    }
+    codes.copy_from_slice(&bytes[at..at + 16]);
     codes
 }

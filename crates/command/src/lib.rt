@@ -4,9 +4,9 @@
 mod reader;
 mod view;
 
-pub use reader::{refusal_of, target_command};
 pub use view::{View, byte_at, byte_in, command_in, look_at, read_command};
 
+// Numbers and no bytes, since callers may hand on commands of any numbers, and 8 and 9 refuse them.
 // The site stands first in both, so that it is found in the same place.
 #[derive(Clone, Copy)]
 pub struct Delivery {
@@ -28,22 +28,9 @@ pub enum Command {
     Recover(Target),
 }
 
-// A command, and the place after it.
+// A command, and the place after it. One type with `scan::Number` and `spelling::HeaderLine` would call all three a value.
 #[derive(Clone, Copy)]
 pub struct Parsed {
     pub command: Command,
     pub next: usize,
-}
-
-// A refusal's number, and its place: of the command byte in a list, of the line's first byte in a text.
-#[derive(Clone, Copy)]
-pub struct Refusal {
-    pub number: u8,
-    pub place: usize,
-}
-
-#[derive(Clone, Copy)]
-pub enum Reading {
-    Refused(Refusal),
-    Found(Parsed),
 }

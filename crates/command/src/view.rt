@@ -1,10 +1,12 @@
-// The view of the caller's list with a place in it, and the thin functions over it through which every byte of a list, or of a text of lines, is read.
+// The view of the caller's list with a place in it, and the thin functions over it through which its commands and its header are read.
 // `byte_in` leaves its work to `byte_of`, and `command_in` to `read_at`, which take the slice and the place as plain parameters.
+// Document 01 has View; callers have `byte_at` and `read_command`, with a list and a place as plain parameters, and 0 past the end.
 ghost use Rattle.std.specs.Prelude.{◌≡◌, ◌<◌, get_or};
 ghost use Rattle.command.specs.Commands.{read_command, refusal_of, refusal_at};
 
-use crate::Reading;
+use crate::Parsed;
 use crate::reader::{byte_of, read_at};
+use refusals::Refusal;
 
 #[derive(Drop)]
 pub struct View<'a> {
@@ -33,14 +35,14 @@ pub fn byte_at(list: &[u8], at: usize) -> usize
 }
 
 // The command at the view's place: the answer itself, and which number and place it stands for.
-pub fn command_in<'a>(v: View<'a>) -> Reading
+pub fn command_in<'a>(v: View<'a>) -> Result<Parsed, Refusal>
     ensures { (result ≡ read_command v.entry.list.now v.entry.at) × (refusal_of result ≡ refusal_at v.entry.list.now v.entry.at) }
 {
     read_at(v.list, v.at)
 }
 
 // The command at a place of a list.
-pub fn read_command(list: &[u8], at: usize) -> Reading
+pub fn read_command(list: &[u8], at: usize) -> Result<Parsed, Refusal>
     ensures { (result ≡ read_command list.now at) × (refusal_of result ≡ refusal_at list.now at) }
 {
     command_in(look_at(list, at))

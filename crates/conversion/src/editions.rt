@@ -1,51 +1,47 @@
 // A list in the other edition.
+// Two editions, so one `if` wherever they differ. n is cut to a byte, which its range is.
 ghost use Rattle.std.specs.Prelude.{◌≡◌, ◌+◌, ◌≤◌, length, replicate};
-ghost use Rattle.text.specs.laws.Written.{Written};
+ghost use Rattle.text.specs.Page.{HasRoom, Put};
 ghost use Rattle.spelling.specs.Ranges.{HeaderInRange};
 ghost use Rattle.conversion.specs.Conversion.{second_bytes, other_bytes, converted, edition_number};
 
 use header::Header;
 use spelling::put_pair;
-use text::put_byte;
+use text::Page;
 
-// A weight of 1 for each of n sites; the place after them.
-fn put_ones(buffer: &mut [u8], at: usize, n: usize) -> usize
-    requires { at + n ≤ length buffer.old }
-    ensures { Written buffer.old at (replicate n 1) buffer.new result }
+// A weight of 1 for each of n sites.
+fn put_ones(page: &mut Page, n: usize)
+    requires { HasRoom page.old n }
+    ensures { Put page.old (replicate n 1) page.new }
 {
-    let mut next = at;
-    let mut k = 0;
-    while k < n {
-        next = put_byte(buffer, next, 1);
-        k += 1;
+    for _ in 0..n {
+        page.put_byte(1);
     }
-    next
 }
 
-// A second-edition header put at the buffer's beginning, each site with a weight of 1; the place after it.
-fn put_second(buffer: &mut [u8], header: Header) -> usize
-    requires { HeaderInRange header × (8 + header.n ≤ length buffer.old) }
-    ensures { Written buffer.old 0 (second_bytes header) buffer.new result }
+// A second-edition header put on a page, each site with a weight of 1.
+fn put_second(page: &mut Page, header: Header)
+    requires { HeaderInRange header × HasRoom page.old (8 + header.n) }
+    ensures { Put page.old (second_bytes header) page.new }
 {
     let commit = header.commit;
     let abort = header.abort;
-    let at = put_byte(buffer, 0, 130);
-    let at = put_byte(buffer, at, header.n as u8);
-    let at = put_pair(buffer, at, commit.0);
-    let at = put_pair(buffer, at, abort.0);
-    let at = put_pair(buffer, at, header.willing);
-    put_ones(buffer, at, header.n)
+    page.put_word(&[130, header.n as u8]);
+    put_pair(page, commit.0);
+    put_pair(page, abort.0);
+    put_pair(page, header.willing);
+    put_ones(page, header.n);
 }
 
-// The header in the other edition put at the buffer's beginning; the place after it.
-fn put_other(buffer: &mut [u8], second: bool, header: Header) -> usize
-    requires { HeaderInRange header × (length (other_bytes second header) ≤ length buffer.old) }
-    ensures { Written buffer.old 0 (other_bytes second header) buffer.new result }
+// The header in the other edition put on a page.
+fn put_other(page: &mut Page, second: bool, header: Header)
+    requires { HeaderInRange header × HasRoom page.old (length (other_bytes second header)) }
+    ensures { Put page.old (other_bytes second header) page.new }
 {
     if second {
-        return spelling::put_header(buffer, header);
+        return spelling::put_header(page, header);
     }
-    put_second(buffer, header)
+    put_second(page, header);
 }
 
 // The length of a list in the other edition.
@@ -60,12 +56,12 @@ pub fn converted_length(list: &[u8]) -> usize
     8 + header::read_header(list).n + after
 }
 
-// The list in the other edition put from the buffer's beginning; the place after it.
-pub fn put_converted(buffer: &mut [u8], list: &[u8]) -> usize
-    requires { (edition_number list.now ≡ 0) × (length (converted list.now) ≤ length buffer.old) }
-    ensures { Written buffer.old 0 (converted list.now) buffer.new result }
+// The list in the other edition put on a page.
+pub fn put_converted(page: &mut Page, list: &[u8])
+    requires { (edition_number list.now ≡ 0) × HasRoom page.old (length (converted list.now)) }
+    ensures { Put page.old (converted list.now) page.new }
 {
     let first = header::header_length(list);
-    let at = put_other(buffer, header::is_second(list), header::read_header(list));
-    text::put_word(buffer, at, &list[first..])
+    put_other(page, header::is_second(list), header::read_header(list));
+    page.put_word(&list[first..]);
 }

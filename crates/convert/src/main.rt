@@ -1,20 +1,23 @@
 // Reads a list from standard input and prints it in the other edition, or its refusal.
+// A program is its buffers, each of a length of its own, and one call; `reading` and `spelled_out` have the rest.
 #![tactic(auto)]
 
 ghost use Rattle.std.specs.Prelude.{◌≡◌, ◌≤◌, length};
 ghost use Rattle.world.specs.Sizes.{list_bytes};
+ghost use Rattle.spelling.specs.Answers.{answer_of};
 ghost use Rattle.conversion.specs.Conversion.{convert};
 
+use refusals::Refusal;
 use spelling::Spelled;
 use std::io;
 use world::World;
 
 // The list in the other edition, into a buffer that has room for the longest, so 20 is not met.
-fn carry(list: &[u8], output: &mut [u8]) -> Spelled
+fn carry(list: &[u8], output: &mut [u8]) -> Result<Spelled, Refusal>
     requires { list_bytes ≤ length output.old }
-    ensures value { result ≡ (convert list.now output.old).answer }
+    ensures value { answer_of result ≡ (convert list.now output.old).answer }
     ensures output_after { output.new ≡ (convert list.now output.old).buffer }
-    ensures length_in_bounds { (result.length ≤ length output.old) × (result.place ≤ length list.now) × (result.number ≡ 20 → ⊥) }
+    ensures length_in_bounds { ((answer_of result).length ≤ length output.old) × ((answer_of result).place ≤ length list.now) × ((answer_of result).number ≡ 20 → ⊥) }
 {
     conversion::convert(list, output)
 }

@@ -1,10 +1,12 @@
 // A whole list and the report as C calls them.
+// C takes an answer as a number, and hands in a stop as one. Its buffers are slices of any length.
 #![tactic(auto)]
 
 ghost use Rattle.std.specs.Prelude.{◌≡◌};
 ghost use Rattle.calls.specs.Calls.{list_call, report_call};
 
-use calls::{RESULT_BYTES, number_of, unfit_number};
+use calls::{RESULT_BYTES, unfit_number};
+use refusals::Reason;
 
 // A whole list.
 #[tactic(auto, using(calls::specs::laws::CallLaws::list_unfit_world), unfolding(calls::specs::Calls::leave))]
@@ -21,11 +23,13 @@ pub fn list_call(list: &[u8], store: &mut [u8], world: &mut [u8], res: &mut [u8]
         return unfit_number(store.len());
     }
     let played = list::play_list(store, list);
-    let after = played.world;
-    encode::put_world(world, after);
+    encode::put_world(world, played.world);
     encode::put_number(res, 0, 4, played.events);
     encode::put_number(res, 4, 4, played.place);
-    number_of(played.number)
+    match played.stop {
+        Some(reason) => u32::from(reason),
+        None => 0,
+    }
 }
 
 // The report.
@@ -43,19 +47,20 @@ pub fn report_call(
     ensures res_after { res.new ≡ (report_call world.now events number place buffer.old res.old).result }
 {
     if res.len() != RESULT_BYTES {
-        return 17;
+        return u32::from(Reason::InvalidWorld);
     }
     if !inside::in_layout(world) {
-        return 17;
+        return u32::from(Reason::InvalidWorld);
     }
     if report::LAST_NUMBER < number as usize {
-        return 17;
+        return u32::from(Reason::InvalidWorld);
     }
     let before = decode::world_at(world);
-    let reported = report::write_report(before, events, number as u8, place, buffer);
-    if reported.number != 0 {
-        return number_of(reported.number);
+    match report::write_report(before, events, number as u8, place, buffer) {
+        Ok(length) => {
+            encode::put_number(res, 0, 8, length);
+            0
+        }
+        Err(reason) => u32::from(reason),
     }
-    encode::put_number(res, 0, 8, reported.length);
-    0
 }

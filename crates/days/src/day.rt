@@ -1,85 +1,83 @@
 // A day: a list and its whole report, played at once and a command at a time.
-use list::ListPlayed;
-use play::Played;
+use refusals::Reason;
 use std::io;
 use world::World;
 
+// Where a play stands, and why it stopped, if it did.
+#[derive(Clone, Copy)]
+struct Standing {
+    world: World,
+    place: usize,
+    stop: Option<Reason>,
+}
+
 // The report's text is the expected one.
-fn reported(played: Played, events: usize, expected: &[u8]) -> bool {
+fn reported(standing: Standing, events: usize, expected: &[u8]) -> bool {
     let size = expected.len();
     if World::REPORT_BYTES < size {
         return false;
     }
     let mut want = [0; World::REPORT_BYTES];
-    text::put_word(&mut want, 0, expected);
+    want[..size].copy_from_slice(expected);
     let mut got = [0; World::REPORT_BYTES];
-    let world = played.world;
-    let report = report::write_report(world, events, played.number, played.place, &mut got);
-    if report.number != 0 {
-        return false;
-    }
-    if report.length != size {
-        return false;
-    }
-    got == want
-}
-
-// Where a list's play stands.
-fn end_of(whole: ListPlayed) -> Played {
-    let world = whole.world;
-    Played {
-        number: whole.number,
-        world,
-        place: whole.place,
-    }
+    let number = standing.stop.map_or(0, |reason| u8::from(reason));
+    let written = report::write_report(standing.world, events, number, standing.place, &mut got);
+    written == Ok(size) && got == want
 }
 
 // The world of a list's header.
-fn begun(list: &[u8]) -> Played {
+fn begun(list: &[u8]) -> Standing {
     let header = header::read_header(list);
-    let commit = header.commit;
-    let abort = header.abort;
-    let weights = header::read_weights(list, header.n);
-    Played {
-        number: 0,
-        world: World::fresh(header.n, weights, commit, abort, header.willing),
+    let sizes = header.sizes(header::read_weights(list, header.n));
+    Standing {
+        world: World::fresh(sizes),
         place: header::header_length(list),
+        stop: None,
     }
 }
 
 // The next command, where one is left and none was refused.
-fn next(played: Played, store: &mut [u8], list: &[u8]) -> Played {
-    if played.number != 0 {
-        return played;
+fn next(standing: Standing, store: &mut [u8], list: &[u8]) -> Standing {
+    if standing.stop.is_some() || list.len() <= standing.place {
+        return standing;
     }
-    if list.len() <= played.place {
-        return played;
+    match perform::one_command(standing.world, store, list, standing.place) {
+        Ok(played) => Standing {
+            world: played.world,
+            place: played.place,
+            stop: None,
+        },
+        Err(refusal) => Standing {
+            stop: Some(refusal.reason),
+            place: refusal.place,
+            ..standing
+        },
     }
-    let world = played.world;
-    perform::one_command(world, store, list, played.place)
 }
 
 // A command at a time, sixteen of them at most.
-fn stepped(store: &mut [u8], list: &[u8]) -> Played {
-    let mut played = begun(list);
-    let mut turn = 0usize;
-    while turn < 16 {
-        played = next(played, store, list);
-        turn += 1;
+fn stepped(store: &mut [u8], list: &[u8]) -> Standing {
+    let mut standing = begun(list);
+    for _ in 0..16 {
+        standing = next(standing, store, list);
     }
-    played
+    standing
 }
 
 // The name, and ok or how the day differs.
 pub fn day(rt: &impl Print, name: &[u8], list: &[u8], expected: &[u8]) -> io::Result<()> {
     let mut store = [0; World::STORE_BYTES];
     let whole = list::play_list(&mut store, list);
-    let events = whole.events;
+    let end = Standing {
+        world: whole.world,
+        place: whole.place,
+        stop: whole.stop,
+    };
     rt.write_all(name)?;
-    if !reported(end_of(whole), events, expected) {
+    if !reported(end, whole.events, expected) {
         return rt.write_all(b" differs\n");
     }
-    if !reported(stepped(&mut store, list), events, expected) {
+    if !reported(stepped(&mut store, list), whole.events, expected) {
         return rt.write_all(b" differs a command at a time\n");
     }
     rt.write_all(b" ok\n")

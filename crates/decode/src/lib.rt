@@ -4,5 +4,5 @@
 mod read;
 mod valid;
 
-pub use read::{long_at, site_at, word_at, world_at};
+pub use read::{long_at, site_at, sizes_at, word_at, world_at};
 pub use valid::valid_at;

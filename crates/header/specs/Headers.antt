@@ -5,6 +5,7 @@ use Rattle.std.specs.Prelude.{ℕ, ◌+◌, Bool, List, ltb, eqb, length, get_or
 use Rattle.choice.specs.Choice.{pick, both}
 use Rattle.word.specs.Words.{word_at}
 use Rattle.weights.specs.Weights.{weights_by, even_weights}
+use Rattle.world.specs.declared.Sizes.{Sizes}
 use Rattle.world.specs.declared.World.{World}
 use Rattle.world.specs.Sizes.{list_bytes, sites_fit, sizes_number}
 use Rattle.world.specs.Worlds.{fresh_world}
@@ -42,6 +43,13 @@ header_of list = pick (is_second list) (second_header list) (first_header list)
 unfoldable pub header_weights : List ℕ → List ℕ
 header_weights list =
     pick (is_second list) (weights_by (λ i. get_or list (8 + i) 0) (header_of list).n) (even_weights (header_of list).n)
+
+-- numbers and weights together
+abbrev pub sizes_of : Header → List ℕ → Sizes
+sizes_of h weights = record { n = h.n; weights = weights; commit = h.commit; abort = h.abort; willing = h.willing }
+
+abbrev pub list_sizes : List ℕ → Sizes
+list_sizes list = sizes_of (header_of list) (header_weights list)
 
 -- its length, the place of the first command
 unfoldable pub header_length : List ℕ → ℕ

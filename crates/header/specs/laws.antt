@@ -1,3 +1,4 @@
 pub mod HeaderLaws
 pub mod FirstLaws
 pub mod Editions
+pub mod Listed

@@ -1,18 +1,20 @@
 // The refusals of a list's length.
 ghost use Rattle.std.specs.Prelude.{◌≡◌};
+ghost use Rattle.refusals.specs.Refusals.{answer_number};
 ghost use Rattle.header.specs.Headers.{after_length};
 
+use refusals::Reason;
 use world::World;
 
-// 1 or 2, or 0.
-pub fn length_number(list: &[u8]) -> u8
-    ensures { result ≡ after_length list.now 0 }
+#[tactic(auto, using(choice::specs::laws::ChoiceLaws::tests))]
+pub fn check_length(list: &[u8]) -> Result<(), Reason>
+    ensures { answer_number result ≡ after_length list.now 0 }
 {
     if World::LIST_BYTES < list.len() {
-        return 1;
+        return Err(Reason::ListTooLong);
     }
     if list.len() < 5 {
-        return 2;
+        return Err(Reason::ListTooShort);
     }
-    0
+    Ok(())
 }

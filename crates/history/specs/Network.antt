@@ -12,7 +12,7 @@ use Rattle.site.specs.Fields.{blank_site}
 use Rattle.site.specs.Records.{Written}
 use Rattle.member.specs.declared.Member.{Member}
 use Rattle.member.specs.declared.Order.TheVariants as Order·
-use Rattle.member.specs.declared.Heard.TheVariants as Heard·
+use Rattle.std.specs.Prelude.{Ok}
 use Rattle.member.specs.Orders.{row_in, read_order}
 use Rattle.member.specs.Steps.{Answer, site_step}
 
@@ -70,7 +70,7 @@ pub record WasSent (sent : List Row) (row : Row) : Type 0 where
 -- the row of an accepted delivery was sent before
 unfoldable pub Genuine : Competition → Network → Told → Type 0
 Genuine z net x =
-    read_order x.command ≡ Heard·.Found Order·.Deliver → (answer_of z net x).number ≡ 0 →
+    read_order x.command ≡ Ok Order·.Deliver → (answer_of z net x).number ≡ 0 →
     WasSent net.sent (row_in x.command)
 
 -- A HISTORY: any list of steps in which every accepted delivery is of a row that was sent before it

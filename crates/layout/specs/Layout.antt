@@ -2,11 +2,8 @@
 use Rattle.std.specs.Prelude.{ℕ, zero, suc, ◌+◌, ◌*◌, Bool, true, List, leb, eqb, length, get_or, set}
 use Rattle.choice.specs.Choice.{pick, both}
 use Rattle.code_bytes.specs.CodeBytes.{put_codes, codes_from}
-use Rattle.site.specs.declared.Group.{Group}
-use Rattle.site.specs.declared.Group.TheVariants as Group·
-use Rattle.site.specs.declared.Outcome.{Outcome}
-use Rattle.site.specs.declared.Outcome.TheVariants as Outcome·
 use Rattle.site.specs.declared.Site.{Site}
+unfoldable pub use Rattle.site.specs.Bytes.{group_byte, outcome_byte, group_of, outcome_of}
 use Rattle.world.specs.declared.World.{World}
 use Rattle.world.specs.Worlds.{down_sites, site_of}
 use Rattle.word.specs.Words.{word_at}
@@ -29,18 +26,6 @@ site_place k = 32 + 40 * k
 -- 0 no, 1 yes
 unfoldable pub flag_byte : Bool → ℕ
 flag_byte b = pick b 1 0
-
--- 0 none, 1 commit, 2 abort
-unfoldable pub group_byte : Group → ℕ
-group_byte Group·.None = 0
-group_byte Group·.Commit = 1
-group_byte Group·.Abort = 2
-
--- 0 none, 1 commit, 2 abort
-unfoldable pub outcome_byte : Outcome → ℕ
-outcome_byte Outcome·.None = 0
-outcome_byte Outcome·.Commit = 1
-outcome_byte Outcome·.Abort = 2
 
 -- layout number, n, C, A, willing, rows, news, two zeros
 unfoldable pub put_numbers : List ℕ → World → List ℕ
@@ -84,12 +69,6 @@ unfoldable pub put_world : List ℕ → World → List ℕ
 put_world b w = put_sites 16 (put_head b w) w
 
 -- reading
-
-unfoldable pub group_of : ℕ → Group
-group_of x = pick (eqb x 1) Group·.Commit (pick (eqb x 2) Group·.Abort Group·.None)
-
-unfoldable pub outcome_of : ℕ → Outcome
-outcome_of x = pick (eqb x 1) Outcome·.Commit (pick (eqb x 2) Outcome·.Abort Outcome·.None)
 
 -- the site that lies at a place
 unfoldable pub site_at : List ℕ → ℕ → Site

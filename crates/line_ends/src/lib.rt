@@ -1,61 +1,55 @@
 // The ends of lines: what follows a command's word, up to the line feed.
+// Each is handed the place where the line began, since that is the place of its refusal.
 #![tactic(auto)]
 
 ghost use Rattle.std.specs.Prelude.{◌≡◌, ◌≤◌, length};
 ghost use Rattle.scan.specs.Scan.{number_at};
-ghost use Rattle.command.specs.laws.TargetLaws.{target_command};
-ghost use Rattle.spelling.specs.LineReading.{bad_line, end_line, site_end, row_end};
+ghost use Rattle.spelling.specs.LineReading.{Makes, end_line, site_end, row_end};
 
-use command::{Command, Delivery, Parsed, Reading, Refusal, Target};
-use scan::{Numeral, read_named, read_number, word_at};
-
-// A line that is not in its form.
-pub fn bad_line(at: usize) -> Reading
-    ensures { result ≡ bad_line at }
-{
-    Reading::Refused(Refusal {
-        number: 19,
-        place: at,
-    })
-}
+use command::{Command, Delivery, Parsed, Target};
+use refusals::{Reason, Refusal};
+use scan::{read_named, read_number, word_at};
 
 // The line feed after a line's last number, of a line that began at a place.
-fn end_line(text: &[u8], begin: usize, command: Command, next: usize) -> Reading
+fn end_line(text: &[u8], begin: usize, command: Command, next: usize) -> Result<Parsed, Refusal>
     requires { next ≤ length text.now }
     ensures { result ≡ end_line text.now begin command next }
 {
     if word_at(text, next, b"\n") {
-        return Reading::Found(Parsed {
+        return Ok(Parsed {
             command,
             next: next + 1,
         });
     }
-    bad_line(begin)
+    Err(Reason::BadLine.at(begin))
 }
 
-// The rest of a line that ends with a site number; the byte is its command's.
-pub fn site_end(text: &[u8], begin: usize, byte: u8, from: usize) -> Reading
-    ensures { result ≡ site_end (target_command byte) text.now begin (number_at 255 text.now from) }
+// The rest of a line that ends with a site number, and what command it makes.
+pub fn site_end<F: FnOnce(Target) -> Command>(
+    text: &[u8],
+    begin: usize,
+    command: F,
+    from: usize,
+) -> Result<Parsed, Refusal>
+    requires { F.IsAlwaysCallable command }
+    ensures { (make : Target → Command) → Makes (F.post command) make → result ≡ site_end make text.now begin (number_at 255 text.now from) }
 {
-    let site = read_number(text, from, 255);
-    let Numeral::Found(number) = site else {
-        return bad_line(begin);
+    let Some(number) = read_number(text, from, 255) else {
+        return Err(Reason::BadLine.at(begin));
     };
-    let command = command::target_command(byte, Target { site: number.value });
-    end_line(text, begin, command, number.next)
+    let site = Target { site: number.value };
+    end_line(text, begin, command(site), number.next)
 }
 
 // The rest of a line with a row number and then a site number.
-pub fn row_end(text: &[u8], begin: usize, from: usize) -> Reading
+pub fn row_end(text: &[u8], begin: usize, from: usize) -> Result<Parsed, Refusal>
     ensures { result ≡ row_end text.now begin (number_at 65535 text.now from) }
 {
-    let row = read_number(text, from, 65535);
-    let Numeral::Found(k) = row else {
-        return bad_line(begin);
+    let Some(k) = read_number(text, from, 65535) else {
+        return Err(Reason::BadLine.at(begin));
     };
-    let site = read_named(text, k.next, b" ", 255);
-    let Numeral::Found(i) = site else {
-        return bad_line(begin);
+    let Some(i) = read_named(text, k.next, b" ", 255) else {
+        return Err(Reason::BadLine.at(begin));
     };
     let delivery = Delivery {
         site: i.value,

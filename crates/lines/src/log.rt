@@ -1,12 +1,13 @@
 // A site's log letters and code digits.
+// Three matches of three types: a trait of letters would be longer and have one use. Codes are bytes, see `site::Site`.
 ghost use Rattle.std.specs.Prelude.{◌≡◌, true, ◌+◌, ◌≤◌, [], ◌∷◌, length};
 ghost use Rattle.text.specs.Text.{text};
-ghost use Rattle.text.specs.laws.Written.{Written};
+ghost use Rattle.text.specs.Page.{HasRoom, Put};
 ghost use Rattle.vector.specs.Vector.{valid_vector};
 ghost use Rattle.lines.specs.Lines.{prepare_letter, group_letter, outcome_letter, log_letters, code_digits};
 
 use site::{Group, Outcome, Site};
-use text::put_byte;
+use text::Page;
 
 fn prepare_letter(prepared: bool) -> u8
     ensures { text (prepare_letter prepared) ≡ result ∷ [] }
@@ -38,29 +39,25 @@ fn outcome_letter(outcome: Outcome) -> u8
 }
 
 // P; C or A for the group; c or a for the outcome; - for none.
-pub fn put_log(buffer: &mut [u8], at: usize, site: Site) -> usize
-    requires { at + 3 ≤ length buffer.old }
-    ensures written { Written buffer.old at (log_letters site) buffer.new result }
-    ensures upper_bound { result ≤ at + 3 }
+pub fn put_log(page: &mut Page, site: Site)
+    requires { HasRoom page.old 3 }
+    ensures put { Put page.old (log_letters site) page.new }
+    ensures upper_bound { page.new.at ≤ page.old.at + 3 }
 {
     let group = site.group;
     let outcome = site.outcome;
-    let at = put_byte(buffer, at, prepare_letter(site.prepared));
-    let at = put_byte(buffer, at, group_letter(group));
-    put_byte(buffer, at, outcome_letter(outcome))
+    page.put_byte(prepare_letter(site.prepared));
+    page.put_byte(group_letter(group));
+    page.put_byte(outcome_letter(outcome));
 }
 
 // The first n codes, a digit each.
-pub fn put_codes(buffer: &mut [u8], at: usize, n: usize, codes: [u8; 16]) -> usize
-    requires { (n ≤ 16) × (valid_vector n codes ≡ true) × (at + n ≤ length buffer.old) }
-    ensures written { Written buffer.old at (code_digits n codes) buffer.new result }
-    ensures upper_bound { result ≤ at + n }
+pub fn put_codes(page: &mut Page, n: usize, codes: [u8; 16])
+    requires { (n ≤ 16) × (valid_vector n codes ≡ true) × HasRoom page.old n }
+    ensures put { Put page.old (code_digits n codes) page.new }
+    ensures upper_bound { page.new.at ≤ page.old.at + n }
 {
-    let mut next = at;
-    let mut k = 0;
-    while k < n {
-        next = put_byte(buffer, next, 48 + codes[k]);
-        k += 1;
+    for &code in &codes[..n] {
+        page.put_byte(48 + code);
     }
-    next
 }

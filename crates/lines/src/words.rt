@@ -1,45 +1,48 @@
 // The words of a site's line.
+// One function for up and role would be handed at one call each the two words that stand here.
 ghost use Rattle.std.specs.Prelude.{◌+◌, ◌≤◌, length};
 ghost use Rattle.text.specs.Text.{text};
-ghost use Rattle.text.specs.laws.Written.{Written};
+ghost use Rattle.text.specs.Page.{HasRoom, Put};
 ghost use Rattle.lines.specs.Lines.{up_word, role_word, state_word};
 
 use site::State;
-use text::put_word;
+use text::Page;
 
-pub fn put_up(buffer: &mut [u8], at: usize, up: bool) -> usize
-    requires { at + 6 ≤ length buffer.old }
-    ensures written { Written buffer.old at (text (up_word up)) buffer.new result }
-    ensures upper_bound { result ≤ at + 6 }
+pub fn put_up(page: &mut Page, up: bool)
+    requires { HasRoom page.old 6 }
+    ensures put { Put page.old (text (up_word up)) page.new }
+    ensures upper_bound { page.new.at ≤ page.old.at + 6 }
 {
     if up {
-        return put_word(buffer, at, b" up ");
+        page.put_word(b" up ");
+    } else {
+        page.put_word(b" down ");
     }
-    put_word(buffer, at, b" down ")
 }
 
-pub fn put_role(buffer: &mut [u8], at: usize, coordinator: bool) -> usize
-    requires { at + 12 ≤ length buffer.old }
-    ensures written { Written buffer.old at (text (role_word coordinator)) buffer.new result }
-    ensures upper_bound { result ≤ at + 12 }
+pub fn put_role(page: &mut Page, coordinator: bool)
+    requires { HasRoom page.old 12 }
+    ensures put { Put page.old (text (role_word coordinator)) page.new }
+    ensures upper_bound { page.new.at ≤ page.old.at + 12 }
 {
     if coordinator {
-        return put_word(buffer, at, b"coordinator ");
+        page.put_word(b"coordinator ");
+    } else {
+        page.put_word(b"subordinate ");
     }
-    put_word(buffer, at, b"subordinate ")
 }
 
-pub fn put_state(buffer: &mut [u8], at: usize, state: State) -> usize
-    requires { at + 13 ≤ length buffer.old }
-    ensures written { Written buffer.old at (text (state_word state)) buffer.new result }
-    ensures upper_bound { result ≤ at + 13 }
+pub fn put_state(page: &mut Page, state: State)
+    requires { HasRoom page.old 13 }
+    ensures put { Put page.old (text (state_word state)) page.new }
+    ensures upper_bound { page.new.at ≤ page.old.at + 13 }
 {
     match state {
-        State::Active => put_word(buffer, at, b"active "),
-        State::Prepared => put_word(buffer, at, b"prepared "),
-        State::CommitGroup => put_word(buffer, at, b"commit-group "),
-        State::AbortGroup => put_word(buffer, at, b"abort-group "),
-        State::Committed => put_word(buffer, at, b"committed "),
-        State::Aborted => put_word(buffer, at, b"aborted "),
+        State::Active => page.put_word(b"active "),
+        State::Prepared => page.put_word(b"prepared "),
+        State::CommitGroup => page.put_word(b"commit-group "),
+        State::AbortGroup => page.put_word(b"abort-group "),
+        State::Committed => page.put_word(b"committed "),
+        State::Aborted => page.put_word(b"aborted "),
     }
 }

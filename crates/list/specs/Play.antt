@@ -2,6 +2,7 @@
 -- Refusals: 16 store; then the header's, 1 to 5 and 21.
 use Rattle.std.specs.Prelude.{ℕ, zero, suc, ◌+◌, List, [], ◌∷◌, ltb, eqb, length}
 use Rattle.choice.specs.Choice.{pick}
+use Rattle.refusals.specs.Refusals.{stop_number}
 use Rattle.world.specs.declared.World.{World}
 use Rattle.world.specs.Sizes.{store_bytes}
 use Rattle.world.specs.Worlds.{zero_world}
@@ -10,9 +11,20 @@ use Rattle.play.specs.Commands.{one_command}
 use Rattle.play.specs.Run.{Ask}
 use Rattle.list.specs.declared.ListPlayed.{ListPlayed}
 
+-- what a caller is told of a list's play: number (0: played to the end), world, accepted events and place
+pub record Ended : Type 0 where
+  pub number : ℕ
+  pub world : World
+  pub events : ℕ
+  pub place : ℕ
+
+-- what the code hands back, as that
+abbrev pub ended : ListPlayed → Ended
+ended p = record { number = stop_number p.stop; world = p.world; events = p.events; place = p.place }
+
 -- what playing leaves: number (0: played to the end), world, accepted events and place; the store; and the calls made, in order
 pub record Play : Type 0 where
-  pub played : ListPlayed
+  pub played : Ended
   pub store : List ℕ
   pub asks : List Ask
 

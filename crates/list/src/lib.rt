@@ -3,13 +3,14 @@
 
 mod whole;
 
+use refusals::Reason;
 pub use whole::play_list;
 use world::World;
 
-// What playing a list hands back beside the store: number (0: played to its end), world, accepted events, place.
+// What playing a list hands back beside the store: why it stopped before its end, if it did; world, accepted events, place.
 #[derive(Clone, Copy)]
 pub struct ListPlayed {
-    pub number: u8,
+    pub stop: Option<Reason>,
     pub world: World,
     pub events: usize,
     pub place: usize,

@@ -11,7 +11,7 @@ use Rattle.site.specs.State.{state_by, code_of}
 use Rattle.rules.specs.Rules.{kept_vector}
 use Rattle.member.specs.declared.Member.{Member}
 use Rattle.member.specs.declared.Order.TheVariants as Order·
-use Rattle.member.specs.declared.Heard.TheVariants as Heard·
+use Rattle.std.specs.Prelude.{Ok}
 use Rattle.member.specs.declared.Logged.{Logged}
 use Rattle.member.specs.Orders.{row_in, read_order}
 use Rattle.member.specs.Steps.{Answer, site_step, valid_member, logged}
@@ -57,7 +57,7 @@ site_of_log own prepare group vector outcome =
 -- what CRASH leaves is that site
 abbrev pub LogIsEnough : Type 0
 LogIsEnough =
-    (m : Member) (s : Site) (bytes : List ℕ) → read_order bytes ≡ Heard·.Found Order·.Crash → (site_step m s bytes).number ≡ 0 →
+    (m : Member) (s : Site) (bytes : List ℕ) → read_order bytes ≡ Ok Order·.Crash → (site_step m s bytes).number ≡ 0 →
     (site_step m s bytes).site ≡ site_of_log m.own s.prepared s.group s.joined s.outcome
 
 -- what is new in a log: the places that were none before
@@ -98,7 +98,7 @@ OneRecord = (m : Member) (s : Site) (bytes : List ℕ) → length (site_step m s
 pub record Arrives (m : Member) (a : Answer) : Type 0 where
   pub from : a.row.sender ≡ m.own
   pub delivers :
-      (bytes : List ℕ) → length bytes ≡ 20 → read_order (2 ∷ put_row_at bytes 0 a.row) ≡ Heard·.Found Order·.Deliver
+      (bytes : List ℕ) → length bytes ≡ 20 → read_order (2 ∷ put_row_at bytes 0 a.row) ≡ Ok Order·.Deliver
   pub same : (bytes : List ℕ) → length bytes ≡ 20 → row_in (2 ∷ put_row_at bytes 0 a.row) ≡ a.row
 
 abbrev pub RowsArrive : Type 0

@@ -1,3 +1,4 @@
+pub mod Hearings
 pub mod Orders
 pub mod Steps
 pub mod Claims

@@ -1,10 +1,13 @@
 -- One site's step: the refusals of document 01's table that make sense for one site, in its order, then the rule that the world's call uses.
 -- 17 sizes or site; 6, 7 command; 8 site number n or more; 10, 11 row; 12 to 14 site. There is no store, no row number and no room: no 16, 9 and 15.
-use Rattle.std.specs.Prelude.{ℕ, Bool, true, false, List, [], ◌∷◌, ltb, eqb}
+use Rattle.std.specs.Prelude.{ℕ, Result, Bool, true, false, List, [], ◌∷◌, ltb, eqb}
 use Rattle.choice.specs.Choice.{pick, both}
 use Rattle.bits.specs.Bits.{has_bit}
+use Rattle.refusals.specs.declared.Reason.{Reason}
+use Rattle.refusals.specs.Refusals.{number_of}
 use Rattle.row.specs.declared.Row.{Row}
 use Rattle.row.specs.Rows.{no_row, row_known}
+use Rattle.row.specs.Messages.{row_sent}
 use Rattle.site.specs.declared.Group.TheVariants as Group·
 use Rattle.site.specs.declared.Outcome.TheVariants as Outcome·
 use Rattle.site.specs.declared.Site.{Site}
@@ -16,8 +19,8 @@ use Rattle.world.specs.Valid.{valid_site}
 use Rattle.member.specs.declared.Member.{Member}
 use Rattle.member.specs.declared.Order.{Order}
 use Rattle.member.specs.declared.Order.TheVariants as Order·
-use Rattle.member.specs.declared.Heard.{Heard}
-use Rattle.member.specs.declared.Heard.TheVariants as Heard·
+use Rattle.member.specs.Hearings.{Heard}
+use Rattle.std.specs.Prelude.{Ok, Err}
 use Rattle.member.specs.declared.Logged.{Logged}
 use Rattle.member.specs.declared.Taken.{Taken}
 use Rattle.member.specs.Orders.{row_in, read_order}
@@ -78,8 +81,8 @@ step_by Order·.Recover bytes m s = recover_step m s
 
 -- what was heard: 6 or 7, or a command; then 8 the member's number is n or more
 unfoldable pub step_heard : Heard → List ℕ → Member → Site → Answer
-step_heard (Heard·.Refused r) bytes m s = refuse r.number s
-step_heard (Heard·.Found order) bytes m s = pick (ltb m.own m.n) (step_by order bytes m s) (refuse 8 s)
+step_heard (Err reason) bytes m s = refuse (number_of reason) s
+step_heard (Ok order) bytes m s = pick (ltb m.own m.n) (step_by order bytes m s) (refuse 8 s)
 
 -- what 17 asks: sizes that break neither 3, 21 nor 4 (there are no willing bits, so no 5), and a site as it is asked of one of the n sites; a site
 -- from n up is not looked at
@@ -106,7 +109,19 @@ unfoldable pub logged : List Written → Logged
 logged [] = nothing
 logged (r ∷ records) = logging r.what (logged records)
 
--- what the code hands back of a step
-unfoldable pub taken_of : Answer → Taken
+-- what a caller is told of a step: number (0: accepted), the next site, the row to send (kind 0: none), its news, and what it has put into the log
+pub record Handed : Type 0 where
+  pub number : ℕ
+  pub site : Site
+  pub row : Row
+  pub news : ℕ
+  pub logged : Logged
+
+unfoldable pub taken_of : Answer → Handed
 taken_of a =
     record { number = a.number; site = a.site; row = a.row; news = a.news; logged = logged a.records }
+
+-- what the code's answer tells a caller who gave a site: a refused step gives it back as it came
+abbrev pub handed : Site → Result Taken Reason → Handed
+handed s (Ok t) = record { number = 0; site = t.site; row = row_sent t.sent; news = t.news; logged = t.logged }
+handed s (Err reason) = record { number = number_of reason; site = s; row = no_row; news = 0; logged = nothing }

@@ -1,11 +1,11 @@
 // A member of a competition: one site with its own machine. What it is held to, what it is told and what it answers are defined here; `member_step` has the step.
 #![tactic(auto)]
 
-use command::Refusal;
-use row::Row;
+use row::Message;
 use site::{AbortQuorum, CommitQuorum, Group, Outcome, Site};
 
 // The sizes, which all members share; the member's own number, and whether it is willing.
+// The sizes are fields of its own and no `Sizes`: willing is one flag here.
 #[derive(Clone, Copy)]
 pub struct Member {
     pub n: usize,
@@ -16,7 +16,7 @@ pub struct Member {
     pub willing: bool,
 }
 
-// What a member is told. The row of a delivery stays in the bytes after the command.
+// What a member is told. It is one site, so no order names one. The row of a delivery stays in the bytes after the command.
 #[derive(Clone, Copy)]
 pub enum Order {
     Start,
@@ -24,12 +24,6 @@ pub enum Order {
     Timeout,
     Crash,
     Recover,
-}
-
-#[derive(Clone, Copy)]
-pub enum Heard {
-    Refused(Refusal),
-    Found(Order),
 }
 
 // The records that a step has written: at each place of the log what was written there, or none.
@@ -40,12 +34,11 @@ pub struct Logged {
     pub outcome: Outcome,
 }
 
-// A step's answer: number (0: accepted), the next site, the row to send (kind 0: none), how many entries rose, and the records written.
+// An accepted step: the next site, the message to send if any, how many entries rose, and the records written.
 #[derive(Clone, Copy)]
 pub struct Taken {
-    pub number: u8,
     pub site: Site,
-    pub row: Row,
+    pub sent: Option<Message>,
     pub news: usize,
     pub logged: Logged,
 }

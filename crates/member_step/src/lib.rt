@@ -1,8 +1,7 @@
 // One site's step: 17 asked of the member and its site, the order read, the refusals in the table's order, then the rule.
 #![tactic(auto)]
 
-mod answers;
-mod commands;
+mod logs;
 mod orders;
 mod steps;
 mod valid;

@@ -1,60 +1,30 @@
 // The reader of an order's bytes.
+// An order is made of its byte and of how many follow, so it is no conversion of a byte.
 ghost use Rattle.std.specs.Prelude.{◌≡◌};
-ghost use Rattle.member.specs.Orders.{refused_with, read_row, order_of, read_order, heard_number, order_number};
+ghost use Rattle.member.specs.Orders.{read_order, heard_number, order_number};
 
-use command::Refusal;
-use member::{Heard, Order};
+use member::Order;
+use refusals::Reason;
 
-fn refused(number: u8) -> Heard
-    ensures { result ≡ refused_with number }
+#[tactic(auto, using(choice::specs::laws::ChoiceLaws::tests), unfolding(member::specs::Orders::read_order, member::specs::Orders::order_of, member::specs::Orders::read_row, member::specs::Orders::refused_with))]
+fn hear(bytes: &[u8]) -> Result<Order, Reason>
+    ensures { result ≡ read_order bytes.now }
 {
-    Heard::Refused(Refusal { number, place: 0 })
-}
-
-fn read_row(bytes: &[u8]) -> Heard
-    ensures { result ≡ read_row bytes.now }
-{
-    if bytes.len() < 21 {
-        return refused(7);
+    match bytes.first() {
+        Some(1) => Ok(Order::Start),
+        Some(2) if bytes.len() < 21 => Err(Reason::OperandsCut),
+        Some(2) => Ok(Order::Deliver),
+        Some(3) => Ok(Order::Timeout),
+        Some(4) => Ok(Order::Crash),
+        Some(5) => Ok(Order::Recover),
+        _ => Err(Reason::NoCommand),
     }
-    Heard::Found(Order::Deliver)
-}
-
-// By the command byte's value.
-fn read_byte(byte: usize, bytes: &[u8]) -> Heard
-    ensures { result ≡ order_of byte bytes.now }
-{
-    if byte == 1 {
-        return Heard::Found(Order::Start);
-    }
-    if byte == 2 {
-        return read_row(bytes);
-    }
-    if byte == 3 {
-        return Heard::Found(Order::Timeout);
-    }
-    if byte == 4 {
-        return Heard::Found(Order::Crash);
-    }
-    if byte == 5 {
-        return Heard::Found(Order::Recover);
-    }
-    refused(6)
 }
 
 // Any bytes: the answer itself, and which number it stands for.
-pub fn read_order(bytes: &[u8]) -> Heard
-    ensures { (result ≡ read_order bytes.now) × (heard_number result ≡ order_number bytes.now) }
+pub fn read_order(bytes: &[u8]) -> Result<Order, Reason>
+    ensures heard { result ≡ read_order bytes.now }
+    ensures number { heard_number result ≡ order_number bytes.now }
 {
-    read_byte(command::byte_at(bytes, 0), bytes)
-}
-
-// The number of an answer; 0 for an order.
-pub fn heard_number(heard: Heard) -> u8
-    ensures { result ≡ heard_number heard }
-{
-    match heard {
-        Heard::Refused(refusal) => refusal.number,
-        Heard::Found(order) => 0,
-    }
+    hear(bytes)
 }

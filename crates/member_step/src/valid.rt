@@ -4,20 +4,26 @@ ghost use Rattle.member.specs.Steps.{valid_member};
 
 use member::Member;
 use site::Site;
+use validity::Limits;
+use world::Sizes;
 
+#[tactic(auto, using(choice::specs::laws::ChoiceLaws::tests, refusals::specs::laws::RefusalLaws::answered), unfolding(member::specs::Steps::valid_member))]
 pub fn valid_member(member: Member, site: Site) -> bool
     ensures { result ≡ valid_member member site }
 {
-    let n = member.n;
-    let own = member.own;
     let weights = member.weights;
-    let commit = member.commit;
-    let abort = member.abort;
-    if world::sizes_number(n, weights, commit, abort, 0) != 0 {
+    let sizes = Sizes {
+        n: member.n,
+        weights,
+        commit: member.commit,
+        abort: member.abort,
+        willing: 0,
+    };
+    if sizes.check().is_err() {
         return false;
     }
-    if n <= own {
+    if member.n <= member.own {
         return true;
     }
-    validity::valid_through(true, own, validity::valid_limits(n), site)
+    Limits::new(member.n).valid_site(member.own, site)
 }

@@ -68,9 +68,6 @@ module _ (n own sender : ℕ) (said v : List ℕ) (few : n ≤ 16) (below : own 
       (sym (get_or-replicate {A = ℕ} 16 own 0 0 (omega arith))) i
       ∙ ap (pick (is_other n own i) (gain said v i)) (get_or-replicate {A = ℕ} 16 i 0 0 h)
 
-  pub mark-small : (rose : List ℕ) → rose ≡ marks n own sender said v → (i : ℕ) → i < 16 → get_or rose i 0 ≤ 1
-  mark-small rose e i h = rw (e, mark i h) (share-small n own said v i)
-
   -- THE CODE MERGES as the definition says
   pub left-is-merging :
       length v ≡ 16 → (codes rose : List ℕ) (news : ℕ) → codes ≡ leaves (entry_of said v) n own sender (get_or v own 0) v →

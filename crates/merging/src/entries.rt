@@ -17,11 +17,9 @@ pub fn merge(n: usize, own: usize, sender: usize, said: [u8; 16], held: [u8; 16]
     let mut rose = [0; 16];
     codes[sender] = higher(held[sender], said[sender]);
     rose[sender] = rise(held[sender], said[sender]);
-    let mut k = 0;
-    while k < n {
+    for k in 0..n {
         codes[k] = higher(held[k], said[k]);
         rose[k] = rise(held[k], said[k]);
-        k += 1;
     }
     codes[own] = held[own];
     rose[own] = 0;

@@ -1,4 +1,5 @@
 // Merging what a row says into the vector that a site holds, the sender's entry first.
+// Codes are bytes in arrays of sixteen whatever n, see `site::Site`: sixteen are merged at once. docs/TRUST.md names `merge` with plain numbers.
 #![tactic(auto)]
 
 mod entries;

@@ -1,6 +1,7 @@
 // DELIVER: merge, adopt an outcome, answer by kind.
 ghost use Rattle.std.specs.Prelude.{◌≡◌, ◌<◌, ◌≤◌};
 ghost use Rattle.rules.specs.Rules.{deliver};
+ghost use Rattle.rules.specs.Steps.{stepped};
 
 use crate::Participant;
 use deliveries::{adopt, answer};
@@ -10,23 +11,14 @@ use rules::Step;
 impl Participant {
     pub fn deliver(mut self, willing: bool, row: Row) -> Step
         requires { (self.n ≤ 16) × (self.own < self.n) × (row.sender < self.n) }
-        ensures { result ≡ (deliver self.own self.n willing row self.site).step }
+        ensures { stepped result ≡ (deliver self.own self.n willing row self.site).step }
     {
-        let own = self.own;
-        let n = self.n;
-        let mut site = self.site;
         let said = row.codes;
-        let held = site.codes;
-        let merged = merging::merge(n, own, row.sender, said, held);
+        let held = self.site.codes;
+        let merged = merging::merge(self.n, self.own, row.sender, said, held);
         let codes = merged.codes;
-        site.codes = codes;
-        answer(
-            row.kind,
-            own,
-            row.sender,
-            willing,
-            merged.news,
-            adopt(own, n, site),
-        )
+        self.site.codes = codes;
+        let heard = adopt(self.own, self.n, self.site);
+        answer(row.kind, self.own, row.sender, willing, merged.news, heard)
     }
 }

@@ -1,22 +1,28 @@
 // START, at site 0.
 ghost use Rattle.std.specs.Prelude.{◌≡◌, ◌<◌, ◌≤◌};
 ghost use Rattle.rules.specs.Rules.{start};
+ghost use Rattle.rules.specs.Steps.{stepped};
 
 use crate::Participant;
+use row::Kind;
 use rules::{Step, commanding};
 use site::Outcome;
 
 impl Participant {
+    #[tactic(auto, unfolding(rules::specs::Rules::start, rules::specs::Rules::commanding, rules::specs::Rules::command_row, site::specs::Fields::with_coordinator, site::specs::Fields::with_prepared, site::specs::Fields::with_codes, site::specs::Fields::with_outcome, site::specs::Records::write_prepare, site::specs::Records::write_outcome, site::specs::Records::with_own, site::specs::Records::outcome_of, site::specs::Records::record_code))]
     pub fn start(mut self, willing: bool) -> Step
         requires { (self.n ≤ 16) × (0 < self.n) }
-        ensures { result ≡ (start self.n willing self.site).step }
+        ensures { stepped result ≡ (start self.n willing self.site).step }
     {
         self.site.coordinator = true;
-        let n = self.n;
-        let site = self.site;
         if willing {
-            return commanding(1, 0, n, site.write_prepare(0));
+            return commanding(Kind::Prepare, 0, self.n, self.site.write_prepare(0));
         }
-        commanding(6, 0, n, site.write_outcome(0, Outcome::Abort, 5))
+        commanding(
+            Kind::Outcome,
+            0,
+            self.n,
+            self.site.write_outcome(0, Outcome::Abort, 5),
+        )
     }
 }

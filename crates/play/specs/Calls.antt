@@ -1,10 +1,12 @@
 -- A call's answer, and how a rule's move enters world and store. Refusals: 15 a row is to be added and 1,024 are there; 17, checked last,
 -- the news would pass 491,520.
-use Rattle.std.specs.Prelude.{ℕ, ◌+◌, List, [], ltb, leb, eqb}
+use Rattle.std.specs.Prelude.{ℕ, ◌+◌, List, [], Result, Ok, Err, ltb, leb, eqb}
 use Rattle.choice.specs.Choice.{pick}
 use Rattle.row.specs.Rows.{put_row}
 use Rattle.site.specs.Records.{Written}
 use Rattle.rules.specs.Rules.{Move}
+use Rattle.refusals.specs.declared.Refusal.{Refusal}
+use Rattle.refusals.specs.Refusals.{number_of}
 use Rattle.world.specs.declared.World.{World}
 use Rattle.world.specs.Sizes.{max_rows, max_news}
 use Rattle.world.specs.Worlds.{with_site, with_rows, with_news}
@@ -62,6 +64,16 @@ enter w store at next own m =
     pick (eqb m.step.row.kind 0) (within_news w store at m (enter_silent w store next own m))
     (pick (ltb w.rows max_rows) (within_news w store at m (enter_row w store next own m)) (refuse 15 w store at))
 
--- what the code hands back of a call, beside the store that it was lent
-unfoldable pub played_of : Call → Played
+-- what a caller is told of a call, beside the store that it lent: number (0: accepted), world and place
+pub record Told : Type 0 where
+  pub number : ℕ
+  pub world : World
+  pub place : ℕ
+
+unfoldable pub played_of : Call → Told
 played_of r = record { number = r.number; world = r.world; place = r.place }
+
+-- what the code's answer tells a caller who gave a world: a refused call gives it back as it came
+abbrev pub told : World → Result Played Refusal → Told
+told w (Ok p) = record { number = 0; world = p.world; place = p.place }
+told w (Err r) = record { number = number_of r.reason; world = w; place = r.place }

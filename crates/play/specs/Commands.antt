@@ -8,10 +8,11 @@ use Rattle.bits.specs.Bits.{has_bit}
 use Rattle.row.specs.Rows.{get_row, row_known}
 use Rattle.site.specs.State.{state_of, is_active}
 use Rattle.rules.specs.Rules.{start, timeout, deliver, crash, recover}
+use Rattle.refusals.specs.Refusals.{number_of}
 use Rattle.command.specs.declared.Command.{Command}
 use Rattle.command.specs.declared.Command.TheVariants as Command·
-use Rattle.command.specs.declared.Reading.{Reading}
-use Rattle.command.specs.declared.Reading.TheVariants as Reading·
+use Rattle.command.specs.Readings.{Reading}
+use Rattle.std.specs.Prelude.{Ok, Err}
 use Rattle.command.specs.Commands.{read_command}
 use Rattle.world.specs.declared.World.{World}
 use Rattle.world.specs.Sizes.{store_bytes}
@@ -76,8 +77,8 @@ perform (Command·.Recover t) w store at next = recover_call w store at next t.s
 
 -- what was read at a place: a command to perform, or its refusal, 6 or 7, with its place
 unfoldable pub perform_read : Reading → World → List ℕ → ℕ → Call
-perform_read (Reading·.Refused r) w store at = refuse r.number w store r.place
-perform_read (Reading·.Found p) w store at = perform p.command w store at p.next
+perform_read (Err r) w store at = refuse (number_of r.reason) w store r.place
+perform_read (Ok p) w store at = perform p.command w store at p.next
 
 -- the command at a place, in a world that 17 need not be asked of
 unfoldable pub play_command : World → List ℕ → List ℕ → ℕ → Call

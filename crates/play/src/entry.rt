@@ -1,78 +1,55 @@
-// A rule's step put into site, row count, news and store; a refusal.
-ghost use Rattle.std.specs.Prelude.{◌≡◌, List, ◌+◌, ◌≤◌, leb};
+// A rule's step put into site, row count, news and store.
+ghost use Rattle.std.specs.Prelude.{◌≡◌, ℕ, List, ◌+◌, ◌≤◌, ◌<◌, IfOk, IfErr};
+ghost use Rattle.refusals.specs.declared.Reason.TheVariants.{InvalidWorld};
+ghost use Rattle.site.specs.declared.Site.{Site};
 ghost use Rattle.site.specs.Records.{Written};
+ghost use Rattle.rules.specs.Steps.{stepped};
 ghost use Rattle.world.specs.Sizes.{max_news};
 ghost use Rattle.play.specs.Calls.{enter};
-ghost use Rattle.play.specs.laws.Changes.{Ready, Acts, refused_change, entered_change};
+ghost use Rattle.play.specs.laws.Changes.{Ready, Acts, entry_of};
 
 use crate::{Change, Head};
+use refusals::Reason;
+use row::Row;
 use rules::Step;
-use site::Site;
 use world::World;
 
-pub fn refused(number: u8, head: Head, at: usize, site: Site) -> Change
-    ensures { result ≡ refused_change number head at site }
-{
-    Change {
-        number,
-        site,
-        rows: head.rows,
-        news: head.news,
-        place: at,
-    }
-}
-
-// News that may be added to that before: the limit may be reached.
-fn news_fits(before: usize, news: usize) -> bool
+// The news added to that before, or 17 where it would pass its limit, which may be reached.
+fn add_news(before: usize, news: usize) -> Result<usize, Reason>
     requires { before ≤ max_news }
-    ensures { result ≡ leb (before + news) max_news }
+    ensures ok { IfOk result (λ sum. (sum ≡ before + news) × (before + news ≤ max_news)) }
+    ensures err { IfErr result (λ reason. (reason ≡ InvalidWorld) × (max_news < before + news)) }
 {
-    news <= World::NEWS - before
-}
-
-// Accepted: the site, so many rows now, and the news added to that before.
-fn entered(site: Site, rows: usize, before: usize, news: usize, next: usize) -> Change
-    requires { before + news ≤ max_news }
-    ensures { result ≡ entered_change site rows before news next }
-{
-    Change {
-        number: 0,
-        site,
-        rows,
-        news: before + news,
-        place: next,
+    if World::NEWS - before < news {
+        return Err(Reason::InvalidWorld);
     }
+    Ok(before + news)
 }
 
-// The step's site, its row and its news added; 15 where there is no room for the row, then 17 where the news would pass its limit. The
-// records that the step wrote do not matter here.
-pub fn enter(
-    head: Head,
-    store: &mut [u8],
-    at: usize,
-    next: usize,
-    own: usize,
-    site: Site,
-    step: Step,
-) -> Change
+// The step's site, its row and its news added; 15 where there is no room for the row, then 17 of the news. The records that the step wrote do not
+// matter here.
+pub fn enter(head: Head, store: &mut [u8], next: usize, step: Step) -> Result<Change, Reason>
     requires { Ready head store.old }
-    ensures { (records : List Written) → Acts head own site result store.new (λ w. enter w store.old at next own (record { step = step; records = records })) }
+    ensures { (own at : ℕ) (site : Site) (records : List Written) → Acts head own site (entry_of head at site result) store.new
+        (λ w. enter w store.old at next own (record { step = stepped step; records = records })) }
 {
-    let after = step.site;
-    let row = step.row;
-    let within = news_fits(head.news, step.news);
-    if row.kind == 0 {
-        if within {
-            return entered(after, head.rows, head.news, step.news, next);
-        }
-        return refused(17, head, at, site);
-    }
+    let Some(message) = step.sent else {
+        return Ok(Change {
+            site: step.site,
+            rows: head.rows,
+            news: add_news(head.news, step.news)?,
+            next,
+        });
+    };
     if World::ROWS <= head.rows {
-        return refused(15, head, at, site);
+        return Err(Reason::StoreFull);
     }
-    if within {
-        row::put_row(store, head.rows, row);
-        return entered(after, head.rows + 1, head.news, step.news, next);
-    }
-    refused(17, head, at, site)
+    let news = add_news(head.news, step.news)?;
+    row::put_row(store, head.rows, Row::from(message));
+    Ok(Change {
+        site: step.site,
+        rows: head.rows + 1,
+        news,
+        next,
+    })
 }

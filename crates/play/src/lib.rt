@@ -4,18 +4,18 @@
 
 mod entry;
 mod named;
+mod put;
 mod told;
 
-pub use entry::{enter, refused};
+pub use entry::enter;
 pub use named::{actor, named_site};
-use site::{AbortQuorum, CommitQuorum, Site};
+use site::Site;
 pub use told::head_of;
-use world::World;
+use world::{Sizes, World};
 
-// A call's answer beside the store: number (0: accepted), world, and the place after the operands, or that of the refused command.
+// What an accepted command leaves beside the store: the world, and the place after the operands.
 #[derive(Clone, Copy)]
 pub struct Played {
-    pub number: u8,
     pub world: World,
     pub place: usize,
 }
@@ -23,22 +23,17 @@ pub struct Played {
 // A world without its sites.
 #[derive(Clone, Copy)]
 pub struct Head {
-    pub n: usize,
-    pub commit: CommitQuorum,
-    pub abort: AbortQuorum,
-    pub willing: usize,
-    pub weights: [u8; 16],
+    pub sizes: Sizes,
     pub rows: usize,
     pub news: usize,
 }
 
-// What a command leaves of the one site that it acts on, of the row count and of the news: all as they were where it is refused. So list
+// What an accepted command leaves of the one site that it acts on, of the row count and of the news, and the place after its operands. So list
 // playing need not copy the world, about 600 bytes, for every command.
 #[derive(Clone, Copy)]
 pub struct Change {
-    pub number: u8,
     pub site: Site,
     pub rows: usize,
     pub news: usize,
-    pub place: usize,
+    pub next: usize,
 }

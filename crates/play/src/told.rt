@@ -5,18 +5,12 @@ ghost use Rattle.play.specs.laws.Changes.{head_of};
 use crate::Head;
 use world::World;
 
+#[tactic(auto, unfolding(crate::specs::laws::Changes::head_of))]
 pub fn head_of(world: World) -> Head
     ensures { result ≡ head_of world }
 {
-    let commit = world.commit;
-    let abort = world.abort;
-    let weights = world.weights;
     Head {
-        n: world.n,
-        commit,
-        abort,
-        willing: world.willing,
-        weights,
+        sizes: world.sizes(),
         rows: world.rows,
         news: world.news,
     }

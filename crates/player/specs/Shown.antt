@@ -2,7 +2,7 @@
 use Rattle.std.specs.Prelude.{ℕ, Bool, List, leb, eqb, length}
 use Rattle.std.proofs.lemmas.List.Edits.{sets}
 use Rattle.choice.specs.Choice.{pick, both, either}
-use Rattle.list.specs.declared.ListPlayed.{ListPlayed}
+use Rattle.list.specs.Play.{Ended}
 use Rattle.lines.specs.Lines.{last_line}
 use Rattle.report.specs.Report.{report}
 
@@ -11,13 +11,13 @@ unfoldable pub is_header_number : ℕ → Bool
 is_header_number k = either (eqb k 21) (both (leb 1 k) (leb k 5))
 
 -- the buffer with the text
-unfoldable pub shown_buffer : ListPlayed → List ℕ → List ℕ
+unfoldable pub shown_buffer : Ended → List ℕ → List ℕ
 shown_buffer p buffer =
     pick (is_header_number p.number) (sets buffer 0 (last_line p.number 0))
     (report p.world p.events p.number p.place buffer).buffer
 
 -- the text's length
-unfoldable pub shown_length : ListPlayed → List ℕ → ℕ
+unfoldable pub shown_length : Ended → List ℕ → ℕ
 shown_length p buffer =
     pick (is_header_number p.number) (length (last_line p.number 0))
     (report p.world p.events p.number p.place buffer).reported.length

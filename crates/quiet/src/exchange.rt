@@ -1,64 +1,44 @@
 // A command of site 0, to every other site, and all replies.
-ghost use Rattle.std.specs.Prelude.{◌≡◌, ◌+◌, ◌*◌, ◌<◌, ◌≤◌, length};
-ghost use Rattle.text.specs.laws.Written.{Written};
+ghost use Rattle.std.specs.Prelude.{ℕ, ◌≡◌, ◌+◌, ◌*◌, ◌<◌, ◌≤◌, length};
+ghost use Rattle.text.specs.Page.{HasRoom, Put};
+ghost use Rattle.command.specs.declared.Delivery.{Delivery};
 ghost use Rattle.spelling.specs.Spelling.{command_bytes};
 ghost use Rattle.spelling.specs.Ranges.{InRange};
-ghost use Rattle.quiet.specs.Quiet.{to_each, from_each, replies_after, exchange};
-ghost use Rattle.quiet.specs.laws.QuietLaws.{bytes};
+ghost use Rattle.quiet.specs.Quiet.{replies_after, exchange};
+ghost use Rattle.quiet.specs.laws.QuietLaws.{Delivers, bytes, each};
 
 use command::{Command, Delivery};
 use spelling::put_command;
+use text::Page;
 
-// The row to each of the other sites; the place after.
-fn put_to_each(buffer: &mut [u8], at: usize, row: usize, others: usize) -> usize
-    requires { (row < 65536) × (others < 256) × (at + 4 * others ≤ length buffer.old) }
-    ensures written { Written buffer.old at (bytes (to_each row others)) buffer.new result }
-    ensures value { result ≡ at + 4 * others }
+// A delivery for each of the other sites, from the first on, by a rule.
+fn put_each<F: Fn(usize) -> Delivery>(page: &mut Page, others: usize, delivery: F)
+    requires callable { (k : ℕ) → k ≤ others → F.pre delivery k }
+    requires in_range { (k : ℕ) (d : Delivery) → k ≤ others → F.post delivery k d → (d.row < 65536) × (d.site < 256) }
+    requires room { HasRoom page.old (4 * others) }
+    ensures put { (rule : ℕ → Command) → Delivers (F.post delivery) rule → Put page.old (bytes (each rule others)) page.new }
+    ensures value { page.new.at ≡ page.old.at + 4 * others }
+    ensures length_kept { length page.new.buffer.now ≡ length page.old.buffer.now }
 {
-    let mut next = at;
-    let mut k = 0;
-    while k < others {
-        k += 1;
-        next = put_command(buffer, next, Command::Deliver(Delivery { site: k, row }));
+    for k in 0..others {
+        put_command(page, Command::Deliver(delivery(k + 1)));
     }
-    next
 }
 
-// The replies, the rows after this one, to site 0; the place after.
-fn put_from_each(buffer: &mut [u8], at: usize, row: usize, others: usize) -> usize
-    requires { (row + others < 65536) × (at + 4 * others ≤ length buffer.old) }
-    ensures written { Written buffer.old at (bytes (from_each row others)) buffer.new result }
-    ensures value { result ≡ at + 4 * others }
+// What makes site 0 send the row, the row to the other sites, and their replies.
+pub fn put_exchange(page: &mut Page, opening: Command, row: usize, others: usize)
+    requires { InRange opening × (row + others < 65536) × (others < 256) × HasRoom page.old (length (command_bytes opening) + 8 * others) }
+    ensures put { Put page.old (bytes (exchange replies_after opening row others)) page.new }
+    ensures value { page.new.at ≡ page.old.at + length (command_bytes opening) + 8 * others }
 {
-    let mut next = at;
-    let mut k = 0;
-    while k < others {
-        k += 1;
-        next = put_command(
-            buffer,
-            next,
-            Command::Deliver(Delivery {
-                site: 0,
-                row: row + k,
-            }),
-        );
-    }
-    next
-}
-
-// What makes site 0 send the row, the row to the other sites, and their replies; the place after.
-pub fn put_exchange(
-    buffer: &mut [u8],
-    at: usize,
-    opening: Command,
-    row: usize,
-    others: usize,
-) -> usize
-    requires { InRange opening × (row + others < 65536) × (others < 256) × (at + length (command_bytes opening) + 8 * others ≤ length buffer.old) }
-    ensures written { Written buffer.old at (bytes (exchange replies_after opening row others)) buffer.new result }
-    ensures value { result ≡ at + length (command_bytes opening) + 8 * others }
-{
-    let at = put_command(buffer, at, opening);
-    let at = put_to_each(buffer, at, row, others);
-    put_from_each(buffer, at, row, others)
+    put_command(page, opening);
+    put_each(page, others, |k| Delivery { site: k, row });
+    put_each(
+        page,
+        others,
+        |k| Delivery {
+            site: 0,
+            row: row + k,
+        },
+    );
 }

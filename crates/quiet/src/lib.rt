@@ -4,21 +4,24 @@
 mod exchange;
 
 ghost use Rattle.std.specs.Prelude.{◌≡◌, ◌+◌, ◌-◌, ◌*◌, ◌≤◌, length};
-ghost use Rattle.text.specs.laws.Written.{Written};
+ghost use Rattle.text.specs.Page.{HasRoom, Put};
+ghost use Rattle.spelling.specs.Answers.{answer_of};
 ghost use Rattle.spelling.specs.Ranges.{HeaderInRange};
 ghost use Rattle.quiet.specs.QuietList.{quiet_header, quiet_list, write_quiet};
 
 use command::{Command, Target};
 use exchange::put_exchange;
 use header::Header;
+use refusals::{Reason, Refusal};
 use site::{AbortQuorum, CommitQuorum};
 use spelling::Spelled;
-use world::World;
+use text::Page;
+use world::{Sizes, World};
 
-// The whole list put from the buffer's beginning; the place after it.
-fn put_quiet(buffer: &mut [u8], n: usize, commit: CommitQuorum, abort: AbortQuorum) -> usize
-    requires { (1 ≤ n) × (n ≤ 16) × HeaderInRange (quiet_header n commit abort) × (10 + 24 * (n - 1) ≤ length buffer.old) }
-    ensures { Written buffer.old 0 (quiet_list n commit abort) buffer.new result }
+// The whole list put on a page.
+fn put_quiet(page: &mut Page, n: usize, commit: CommitQuorum, abort: AbortQuorum)
+    requires { (1 ≤ n) × (n ≤ 16) × HeaderInRange (quiet_header n commit abort) × HasRoom page.old (10 + 24 * (n - 1)) }
+    ensures { Put page.old (quiet_list n commit abort) page.new }
 {
     let header = Header {
         n,
@@ -27,40 +30,39 @@ fn put_quiet(buffer: &mut [u8], n: usize, commit: CommitQuorum, abort: AbortQuor
         willing: bits::every_site(n),
     };
     let others = n - 1;
-    let at = spelling::put_header(buffer, header);
-    let at = put_exchange(buffer, at, Command::Start, 0, others);
-    let at = put_exchange(buffer, at, Command::Timeout(Target { site: 0 }), n, others);
-    put_exchange(
-        buffer,
-        at,
-        Command::Timeout(Target { site: 0 }),
-        2 * n,
-        others,
-    )
+    let wait = Command::Timeout(Target { site: 0 });
+    spelling::put_header(page, header);
+    put_exchange(page, Command::Start, 0, others);
+    put_exchange(page, wait, n, others);
+    put_exchange(page, wait, 2 * n, others);
 }
 
 // WRITING THE QUIET DAY, from the buffer's beginning; 3 or 4, then 20, and the buffer untouched.
-pub fn write_quiet(n: usize, commit: CommitQuorum, abort: AbortQuorum, buffer: &mut [u8]) -> Spelled
-    ensures value { result ≡ (write_quiet n commit abort buffer.old).answer }
+pub fn write_quiet(
+    n: usize,
+    commit: CommitQuorum,
+    abort: AbortQuorum,
+    buffer: &mut [u8],
+) -> Result<Spelled, Refusal>
+    ensures value { answer_of result ≡ (write_quiet n commit abort buffer.old).answer }
     ensures buffer_after { buffer.new ≡ (write_quiet n commit abort buffer.old).buffer }
 {
     if World::SITES < n {
-        return Spelled::refused(3, 0);
+        return Err(Reason::SiteCount.into());
     }
-    let weights = weights::even_weights(n);
-    let number = world::sizes_number(n, weights, commit, abort, bits::every_site(n));
-    if number != 0 {
-        return Spelled::refused(number, 0);
-    }
+    let sizes = Sizes {
+        n,
+        weights: weights::even_weights(n),
+        commit,
+        abort,
+        willing: bits::every_site(n),
+    };
+    sizes.check()?;
     // 5 bytes of header, 5 of START and two TIMEOUTs, and six deliveries of 4 for each other site
     let length = 10 + 24 * (n - 1);
     if buffer.len() < length {
-        return Spelled::refused(20, 0);
+        return Err(Reason::OutputTooShort.into());
     }
-    put_quiet(buffer, n, commit, abort);
-    Spelled {
-        number: 0,
-        place: 0,
-        length,
-    }
+    put_quiet(&mut Page::new(buffer), n, commit, abort);
+    Ok(Spelled { place: 0, length })
 }

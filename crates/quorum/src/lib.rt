@@ -1,4 +1,5 @@
 // The calls offered to C, on byte slices and numbers; `quorum_c` exports them. docs/LAYOUT.md has the bytes; include/quorum.h says how to call.
+// The form of each is that of its declaration there: buffers with a result, an answer as a number, a list with a place.
 #![tactic(auto)]
 
 ghost use Rattle.std.specs.Prelude.{◌≡◌};
@@ -9,6 +10,7 @@ ghost use Rattle.line_calls.specs.LineCalls.{lines_call};
 ghost use Rattle.calls.specs.Calls.{list_call, command_call, report_call};
 
 use calls::RESULT_BYTES;
+use refusals::Reason;
 use world::World;
 
 // A whole list.
@@ -35,16 +37,16 @@ pub fn qc_play_command(
     ensures res_after { res.new ≡ (command_call world.old store.old list.now at res.old).result }
 {
     if store.len() < World::STORE_BYTES {
-        return 16;
+        return u32::from(Reason::StoreTooShort);
     }
     if res.len() != RESULT_BYTES {
-        return 17;
+        return u32::from(Reason::InvalidWorld);
     }
     if !inside::in_layout(world) {
-        return 17;
+        return u32::from(Reason::InvalidWorld);
     }
     if !decode::valid_at(world) {
-        return 17;
+        return u32::from(Reason::InvalidWorld);
     }
     calls::play_at(world, store, list, at, res)
 }

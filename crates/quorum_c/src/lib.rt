@@ -1,4 +1,5 @@
 // The archive for C, libquorum.a: each export calls the function of `quorum` of its name, and promises what it promises. include/quorum.h says how to call.
+// An archive exports functions of its own, and nothing else is in it.
 #![tactic(auto)]
 
 ghost use Rattle.std.specs.Prelude.{◌≡◌};

@@ -1,5 +1,6 @@
 // The call offered to C for a club's own server: one site's step. It is an archive of its own, so that a server links nothing else, and the other calls
 // are compiled as if it were not there. docs/LAYOUT.md has the bytes; include/quorum.h says how to call.
+// Its form is that of its declaration there: buffers with a result, an answer as a number.
 #![tactic(auto)]
 
 ghost use Rattle.std.specs.Prelude.{◌≡◌};

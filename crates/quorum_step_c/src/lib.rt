@@ -1,4 +1,5 @@
 // The archive for a club's own server, libquorum_step.a: the export calls the function of `quorum_step`, and promises what it promises.
+// An archive exports functions of its own, and nothing else is in it.
 #![tactic(auto)]
 
 ghost use Rattle.std.specs.Prelude.{◌≡◌};

@@ -1,108 +1,97 @@
 // Reading lines as a list.
+// `while`, since the place moves by what is read. Text and place stand apart, since a refusal tells the place.
 #![tactic(auto)]
 
-ghost use Rattle.std.specs.Prelude.{◌≡◌, ◌≤◌, length};
-ghost use Rattle.text.specs.laws.Written.{Written};
+ghost use Rattle.std.specs.Prelude.{◌≡◌, ◌+◌, ◌≤◌, length};
+ghost use Rattle.text.specs.Page.{HasRoom, Put};
+ghost use Rattle.refusals.specs.Refusals.{answer_number};
+ghost use Rattle.spelling.specs.Answers.{answer_of};
 ghost use Rattle.spelling.specs.WriteRead.{text_script, bytes_of, spelled_number, read_commands, read_lines};
 ghost use Rattle.spelling.specs.Ranges.{HeaderInRange};
 ghost use Rattle.read_lines.specs.laws.ReadLaws.{measured};
 
-use command::Reading;
 use header::Header;
 use line_reader::read_line;
-use spelling::{HeaderReading, Spelled};
+use refusals::{Reason, Refusal};
+use spelling::Spelled;
+use text::Page;
 use world::World;
 
 // The length of the list, its header with the commands from a place on, or 19 with its place.
-fn measure(text: &[u8], from: usize) -> Spelled
+fn measure(text: &[u8], from: usize) -> Result<Spelled, Refusal>
     requires { (5 ≤ from) × (from ≤ length text.now) }
-    ensures { result ≡ measured text.now from }
+    ensures { answer_of result ≡ measured text.now from }
 {
     let mut length = 5;
     let mut at = from;
     while at < text.len() {
-        let reading = read_line(text, at);
-        let Reading::Found(parsed) = reading else {
-            let refusal = command::refusal_of(reading);
-            return Spelled::refused(refusal.number, refusal.place);
-        };
-        let command = parsed.command;
-        length += spelling::command_length(command);
+        let parsed = read_line(text, at)?;
+        length += spelling::command_length(parsed.command);
         at = parsed.next;
     }
-    Spelled {
-        number: 0,
+    Ok(Spelled {
         place: text.len(),
         length,
-    }
+    })
 }
 
-// 1, or 3 to 5, of a list of so many bytes with this header; 0 for none.
-#[tactic(auto, using(choice::specs::laws::ChoiceLaws::tests), unfolding(spelling::specs::WriteRead::spelled_number))]
-fn spelled_number(header: Header, bytes: usize) -> u8
-    ensures { result ≡ spelled_number header bytes }
+// 1, or 3 to 5, of a list of so many bytes with this header.
+#[tactic(auto, using(choice::specs::laws::ChoiceLaws::tests), unfolding(spelling::specs::WriteRead::spelled_number, header::specs::Headers::first_sizes, header::specs::Headers::header_sizes))]
+fn check_list(header: Header, bytes: usize) -> Result<(), Reason>
+    ensures { answer_number result ≡ spelled_number header bytes }
 {
     if World::LIST_BYTES < bytes {
-        return 1;
+        return Err(Reason::ListTooLong);
     }
-    let commit = header.commit;
-    let abort = header.abort;
-    let weights = weights::even_weights(header.n);
-    world::sizes_number(header.n, weights, commit, abort, header.willing)
+    header.sizes(weights::even_weights(header.n)).check()
 }
 
-// The header and every command that can be read from a place on, put from the buffer's beginning.
-fn put_list(buffer: &mut [u8], header: Header, text: &[u8], from: usize) -> usize
+// The header and every command that can be read from a place on, put on a page.
+fn put_list(page: &mut Page, header: Header, text: &[u8], from: usize)
     requires { HeaderInRange header × (from ≤ length text.now) ×
-        (length (bytes_of header (text_script text.now from).commands) ≤ length buffer.old) }
-    ensures { Written buffer.old 0 (bytes_of header (text_script text.now from).commands) buffer.new result }
+        HasRoom page.old (length (bytes_of header (text_script text.now from).commands)) }
+    ensures { Put page.old (bytes_of header (text_script text.now from).commands) page.new }
 {
-    let mut next = spelling::put_header(buffer, header);
+    spelling::put_header(page, header);
     let mut at = from;
     while at < text.len() {
-        let reading = read_line(text, at);
-        let Reading::Found(parsed) = reading else {
-            return next;
+        let Ok(parsed) = read_line(text, at) else {
+            return;
         };
-        let command = parsed.command;
-        next = spelling::put_command(buffer, next, command);
+        spelling::put_command(page, parsed.command);
         at = parsed.next;
     }
-    next
 }
 
 // The list that the lines from a place on spell, with the header read before them.
-fn read_commands(text: &[u8], header: Header, from: usize, buffer: &mut [u8]) -> Spelled
+fn read_commands(
+    text: &[u8],
+    header: Header,
+    from: usize,
+    buffer: &mut [u8],
+) -> Result<Spelled, Refusal>
     requires { HeaderInRange header × (5 ≤ from) × (from ≤ length text.now) }
-    ensures value { result ≡ (read_commands text.now header from buffer.old).answer }
+    ensures value { answer_of result ≡ (read_commands text.now header from buffer.old).answer }
     ensures buffer_after { buffer.new ≡ (read_commands text.now header from buffer.old).buffer }
-    ensures length_in_bounds { (result.length ≤ length buffer.old) × (result.place ≤ length text.now) }
+    ensures length_in_bounds { ((answer_of result).length ≤ length buffer.old) × ((answer_of result).place ≤ length text.now) }
 {
-    let measured = measure(text, from);
-    if measured.number != 0 {
-        return measured;
+    let spelled = measure(text, from)?;
+    check_list(header, spelled.length)?;
+    if buffer.len() < spelled.length {
+        return Err(Reason::OutputTooShort.into());
     }
-    let number = spelled_number(header, measured.length);
-    if number != 0 {
-        return Spelled::refused(number, 0);
-    }
-    if buffer.len() < measured.length {
-        return Spelled::refused(20, 0);
-    }
-    put_list(buffer, header, text, from);
-    measured
+    put_list(&mut Page::new(buffer), header, text, from);
+    Ok(spelled)
 }
 
 // THE READER: text to list bytes, from the buffer's beginning; 19, then 1 and 3 to 5, then 20, and the buffer untouched.
-pub fn read_lines(text: &[u8], buffer: &mut [u8]) -> Spelled
-    ensures value { result ≡ (read_lines text.now buffer.old).answer }
+pub fn read_lines(text: &[u8], buffer: &mut [u8]) -> Result<Spelled, Refusal>
+    ensures value { answer_of result ≡ (read_lines text.now buffer.old).answer }
     ensures buffer_after { buffer.new ≡ (read_lines text.now buffer.old).buffer }
-    ensures length_in_bounds { (result.length ≤ length buffer.old) × (result.place ≤ length text.now) }
+    ensures length_in_bounds { ((answer_of result).length ≤ length buffer.old) × ((answer_of result).place ≤ length text.now) }
 {
-    let reading = line_reader::read_header_line(text);
-    let HeaderReading::Found(line) = reading else {
-        return Spelled::refused(19, 0);
+    let Some(line) = line_reader::read_header_line(text) else {
+        return Err(Reason::BadLine.into());
     };
-    let header = line.header;
-    read_commands(text, header, line.next, buffer)
+    read_commands(text, line.header, line.next, buffer)
 }

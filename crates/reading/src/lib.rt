@@ -1,4 +1,5 @@
 // Reads input into a buffer.
+// `while`, since the place moves by what is read; `read_exact` tells no length where the input ends early.
 #![tactic(auto)]
 
 ghost use Rattle.std.specs.Prelude.{◌≡◌, ◌<◌, ◌≤◌, length, take, IfOk, OnErr};

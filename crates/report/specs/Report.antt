@@ -1,12 +1,13 @@
 -- The report call. 17: the world, an event count or end place over 32,768, or a stop number that is neither 0 nor in the table;
 -- 18: a buffer shorter than 1,024.
-use Rattle.std.specs.Prelude.{ℕ, Bool, List, ◌++◌, ltb, leb, length}
+use Rattle.std.specs.Prelude.{ℕ, Bool, List, ◌++◌, Result, Ok, Err, ltb, leb, length}
 use Rattle.std.proofs.lemmas.List.Edits.{sets}
 use Rattle.choice.specs.Choice.{pick, both}
 use Rattle.world.specs.declared.World.{World}
 use Rattle.world.specs.Sizes.{list_bytes, report_bytes}
 use Rattle.world.specs.Valid.{valid_world}
-use Rattle.report.specs.declared.Reported.{Reported}
+use Rattle.refusals.specs.declared.Reason.{Reason}
+use Rattle.refusals.specs.Refusals.{number_of}
 use Rattle.lines.specs.Lines.{sizes_line, site_lines, last_line}
 
 -- the whole text
@@ -21,6 +22,16 @@ last_number = 22
 unfoldable pub report_valid : World → ℕ → ℕ → ℕ → Bool
 report_valid w events number place =
     both (valid_world w) (both (leb events list_bytes) (both (leb place list_bytes) (leb number last_number)))
+
+-- the call's number (0: accepted), and the text's length
+pub record Reported : Type 0 where
+  pub number : ℕ
+  pub length : ℕ
+
+-- the number and the length that each answer stands for
+abbrev pub reported_of : Result ℕ Reason → Reported
+reported_of (Ok n) = record { number = 0; length = n }
+reported_of (Err reason) = record { number = number_of reason; length = 0 }
 
 -- what the call leaves: its number with the text's length, and the buffer
 pub record Report : Type 0 where

@@ -1,67 +1,57 @@
 // The report call.
-ghost use Rattle.std.specs.Prelude.{◌≡◌, true, ◌<◌, ◌≤◌, length};
-ghost use Rattle.text.specs.laws.Written.{Written};
-ghost use Rattle.report.specs.Report.{report_text, report_valid, report};
+ghost use Rattle.std.specs.Prelude.{◌≡◌, true, ◌+◌, ◌<◌, ◌≤◌, length};
+ghost use Rattle.text.specs.Page.{HasRoom, Put};
+ghost use Rattle.report.specs.Report.{report_text, report_valid, reported_of, report};
 
-use crate::{LAST_NUMBER, Reported};
+use crate::LAST_NUMBER;
 use lines::{put_last, put_sites, put_sizes};
+use refusals::Reason;
+use text::Page;
 use world::World;
 
 // What 17 asks of the report's values.
+#[tactic(auto, using(choice::specs::laws::ChoiceLaws::tests), unfolding(crate::specs::Report::report_valid))]
 fn report_valid(world: World, events: usize, number: usize, place: usize) -> bool
     ensures { result ≡ report_valid world events number place }
 {
-    if !validity::valid_world(world) {
-        return false;
-    }
-    if World::LIST_BYTES < events {
-        return false;
-    }
-    if World::LIST_BYTES < place {
-        return false;
-    }
-    number <= LAST_NUMBER
+    validity::valid_world(world)
+        && events <= World::LIST_BYTES
+        && place <= World::LIST_BYTES
+        && number <= LAST_NUMBER
 }
 
-// The whole text; its length.
-fn write_text(world: World, events: usize, number: usize, place: usize, buffer: &mut [u8]) -> usize
-    requires { (report_valid world events number place ≡ true) × (1024 ≤ length buffer.old) }
-    ensures written { Written buffer.old 0 (report_text world events number place) buffer.new result }
-    ensures upper_bound { result ≤ 1024 }
+// The whole text put on a page.
+fn put_text(page: &mut Page, world: World, events: usize, number: usize, place: usize)
+    requires { (report_valid world events number place ≡ true) × HasRoom page.old 1024 }
+    ensures put { Put page.old (report_text world events number place) page.new }
+    ensures upper_bound { page.new.at ≤ page.old.at + 1024 }
 {
-    let at = put_sizes(buffer, 0, world, events);
-    let at = put_sites(buffer, at, world);
-    put_last(buffer, at, number, place)
+    put_sizes(page, world, events);
+    put_sites(page, world);
+    put_last(page, number, place);
 }
 
-// THE REPORT: the text from the buffer's beginning, or 17 or 18 and the buffer untouched.
-#[tactic(auto, using(crate::specs::laws::ReportLaws::rooms), unfolding(crate::specs::Report::untouched))]
+// The stop is a number, 0 for the list's end, since a caller may hand in any byte.
+// THE REPORT: the text from the buffer's beginning, or 17 or 18 and the buffer untouched; the text's length.
 pub fn write_report(
     world: World,
     events: usize,
     number: u8,
     place: usize,
     buffer: &mut [u8],
-) -> Reported
-    ensures value { result ≡ (report world events number place buffer.old).reported }
+) -> Result<usize, Reason>
+    ensures value { reported_of result ≡ (report world events number place buffer.old).reported }
     ensures buffer_after { buffer.new ≡ (report world events number place buffer.old).buffer }
-    ensures length_in_bounds { result.length ≤ length buffer.old }
+    ensures length_in_bounds { (reported_of result).length ≤ length buffer.old }
 {
-    let number = number as usize;
+    let number = usize::from(number);
     if !report_valid(world, events, number, place) {
-        return Reported {
-            number: 17,
-            length: 0,
-        };
+        return Err(Reason::InvalidWorld);
     }
     if buffer.len() < World::REPORT_BYTES {
-        return Reported {
-            number: 18,
-            length: 0,
-        };
+        return Err(Reason::ReportTooShort);
     }
-    Reported {
-        number: 0,
-        length: write_text(world, events, number, place, buffer),
-    }
+    let mut page = Page::new(buffer);
+    put_text(&mut page, world, events, number, place);
+    Ok(page.at)
 }

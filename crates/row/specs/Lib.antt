@@ -1,3 +1,4 @@
 pub mod Rows
+pub mod Messages
 pub mod Claims
 pub mod laws

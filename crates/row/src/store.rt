@@ -1,11 +1,12 @@
 // A row's twenty bytes, at any place and in the store.
+// The store is a buffer of C: twenty bytes a row, and it may be longer. A row of zeros is what C is handed for none.
 ghost use Rattle.std.specs.Prelude.{◌≡◌, ◌+◌, ◌<◌, ◌≤◌, length};
 ghost use Rattle.row.specs.Rows.{no_row, put_head, put_row_at, put_row, row_at, get_row, row_place};
 
 use crate::Row;
 use code_bytes::{get_codes, put_codes};
-use word::wide;
 
+#[tactic(auto, unfolding(crate::specs::Rows::no_row))]
 pub fn no_row() -> Row
     ensures { result ≡ no_row }
 {
@@ -18,6 +19,7 @@ pub fn no_row() -> Row
 }
 
 // Where row k lies.
+#[tactic(auto, unfolding(crate::specs::Rows::row_place))]
 fn row_place(k: usize) -> usize
     requires { k ≤ 1024 }
     ensures { result ≡ row_place k }
@@ -25,17 +27,20 @@ fn row_place(k: usize) -> usize
     20 * k
 }
 
+#[tactic(auto, unfolding(crate::specs::Rows::put_head))]
 fn put_head(store: &mut [u8], at: usize, row: Row)
     requires { at + 4 ≤ length store.old }
     ensures { store.new ≡ put_head store.old at row }
 {
+    let [low, high] = ((row.destinations % 65536) as u16).to_le_bytes();
     store[at] = row.kind;
     store[at + 1] = (row.sender % 256) as u8;
-    store[at + 2] = (row.destinations % 256) as u8;
-    store[at + 3] = (row.destinations / 256 % 256) as u8;
+    store[at + 2] = low;
+    store[at + 3] = high;
 }
 
 // The row written at a place.
+#[tactic(auto, unfolding(crate::specs::Rows::put_row_at))]
 pub fn put_row_at(bytes: &mut [u8], at: usize, row: Row)
     requires { at + 20 ≤ length bytes.old }
     ensures { bytes.new ≡ put_row_at bytes.old at row }
@@ -46,6 +51,7 @@ pub fn put_row_at(bytes: &mut [u8], at: usize, row: Row)
 }
 
 // The row that lies at a place.
+#[tactic(auto, unfolding(crate::specs::Rows::row_at))]
 pub fn row_at(bytes: &[u8], at: usize) -> Row
     requires { at + 20 ≤ length bytes.now }
     ensures { result ≡ row_at bytes.now at }
@@ -53,13 +59,14 @@ pub fn row_at(bytes: &[u8], at: usize) -> Row
     let codes = get_codes(bytes, at + 4);
     Row {
         kind: bytes[at],
-        sender: wide(bytes[at + 1]),
-        destinations: wide(bytes[at + 2]) + 256 * wide(bytes[at + 3]),
+        sender: usize::from(bytes[at + 1]),
+        destinations: usize::from(u16::from_le_bytes([bytes[at + 2], bytes[at + 3]])),
         codes,
     }
 }
 
 // The row written as row k.
+#[tactic(auto, unfolding(crate::specs::Rows::put_row, crate::specs::Rows::row_place))]
 pub fn put_row(store: &mut [u8], k: usize, row: Row)
     requires { (k < 1024) × (20480 ≤ length store.old) }
     ensures { store.new ≡ put_row store.old k row }
@@ -68,6 +75,7 @@ pub fn put_row(store: &mut [u8], k: usize, row: Row)
 }
 
 // Row k of the store.
+#[tactic(auto, unfolding(crate::specs::Rows::get_row, crate::specs::Rows::row_place))]
 pub fn get_row(store: &[u8], k: usize) -> Row
     requires { (k < 1024) × (20480 ≤ length store.now) }
     ensures { result ≡ get_row store.now k }

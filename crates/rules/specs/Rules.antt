@@ -12,16 +12,21 @@ use Rattle.site.specs.declared.Group.TheVariants as Group·
 use Rattle.site.specs.declared.State.{State}
 use Rattle.site.specs.declared.State.TheVariants as State·
 use Rattle.site.specs.declared.Site.{Site}
-use Rattle.rules.specs.declared.Step.{Step}
 use Rattle.site.specs.declared.CommitQuorum.{CommitQuorum}
 use Rattle.site.specs.declared.AbortQuorum.{AbortQuorum}
 use Rattle.site.specs.State.{state_of, code_of, is_terminated, is_active, commit_reached, abort_reached}
 use Rattle.site.specs.Fields.{zero_vector, with_up, with_coordinator, with_codes}
 use Rattle.site.specs.Records.{Written, wrote, prepare_record, group_record, outcome_record, commit, abort, write_prepare, join_group, write_outcome}
 
+-- what a rule gives: the next site, the row it sends (kind 0: none), and its news
+pub record Stepped : Type 0 where
+  pub site : Site
+  pub row : Row
+  pub news : ℕ
+
 -- what a rule does: the next site with the row it sends and its news, and the records written
 pub record Move : Type 0 where
-  pub step : Step
+  pub step : Stepped
   pub records : List Written
 
 -- a site with the records that led to it

@@ -1,11 +1,11 @@
 // Words and decimal numbers found at a place of a text.
+// No `parse`: it takes leading noughts and a sign, and tells no place. Text and place stand apart, since a refusal tells the place.
 #![tactic(auto)]
 
 ghost use Rattle.std.specs.Prelude.{◌≡◌, ◌+◌, ◌<◌, ◌≤◌, length};
 ghost use Rattle.scan.specs.Scan.{is_digit, word_at, digits_from, number_at, named_at};
 
 use command::byte_at;
-use word::wide;
 
 // A number, and the place after its digits.
 #[derive(Clone, Copy)]
@@ -14,38 +14,19 @@ pub struct Number {
     pub next: usize,
 }
 
-#[derive(Clone, Copy)]
-pub enum Numeral {
-    Missing,
-    Found(Number),
-}
-
 // The word stands at the place.
 pub fn word_at(text: &[u8], at: usize, word: &[u8]) -> bool
     requires { at ≤ length text.now }
     ensures { result ≡ word_at word.now text.now at }
 {
-    if text.len() - at < word.len() {
-        return false;
-    }
-    let mut k = 0;
-    while k < word.len() {
-        if byte_at(text, at + k) != wide(word[k]) {
-            return false;
-        }
-        k += 1;
-    }
-    true
+    text[at..].starts_with(word)
 }
 
 // A byte of 0 to 9.
 fn is_digit(byte: usize) -> bool
     ensures { result ≡ is_digit byte }
 {
-    if byte < 48 {
-        return false;
-    }
-    byte <= 57
+    (48..=57).contains(&byte)
 }
 
 // The digits after the first, at most four; a number that begins with a nought has none.
@@ -56,8 +37,7 @@ fn digits_from(text: &[u8], at: usize, first: usize) -> Number
 {
     let mut value = first;
     let mut next = at;
-    let mut k: usize = 0;
-    while k < 4 {
+    for _ in 0..4usize {
         let byte = byte_at(text, next);
         if value == 0 {
             return Number { value, next };
@@ -67,33 +47,32 @@ fn digits_from(text: &[u8], at: usize, first: usize) -> Number
         }
         value = 10 * value + (byte - 48);
         next += 1;
-        k += 1;
     }
     Number { value, next }
 }
 
 // The number at the place, without leading noughts and at most the limit.
-pub fn read_number(text: &[u8], at: usize, limit: usize) -> Numeral
+pub fn read_number(text: &[u8], at: usize, limit: usize) -> Option<Number>
     ensures { result ≡ number_at limit text.now at }
 {
     let first = byte_at(text, at);
     if !is_digit(first) {
-        return Numeral::Missing;
+        return None;
     }
     let number = digits_from(text, at + 1, first - 48);
     if limit < number.value {
-        return Numeral::Missing;
+        return None;
     }
-    Numeral::Found(number)
+    Some(number)
 }
 
 // The number after a word.
-pub fn read_named(text: &[u8], at: usize, word: &[u8], limit: usize) -> Numeral
+pub fn read_named(text: &[u8], at: usize, word: &[u8], limit: usize) -> Option<Number>
     requires { at ≤ length text.now }
     ensures { result ≡ named_at word.now limit text.now at }
 {
     if !word_at(text, at, word) {
-        return Numeral::Missing;
+        return None;
     }
     read_number(text, at + word.len(), limit)
 }

@@ -1,26 +1,26 @@
 // A site, its log and its state.
 #![tactic(auto)]
 
+mod bytes;
 mod log;
 mod states;
 
-pub use states::{code_of, is_active, is_terminated};
-
-#[derive(Clone, Copy)]
+// Document 01 has both enums as fields of a site, each with a None of its own, so they are no Option.
+#[derive(Clone, Copy, Debug, PartialEq, Eq)]
 pub enum Group {
     None,
     Commit,
     Abort,
 }
 
-#[derive(Clone, Copy)]
+#[derive(Clone, Copy, Debug, PartialEq, Eq)]
 pub enum Outcome {
     None,
     Commit,
     Abort,
 }
 
-#[derive(Clone, Copy)]
+#[derive(Clone, Copy, Debug, PartialEq, Eq)]
 pub enum State {
     Active,
     Prepared,
@@ -30,15 +30,17 @@ pub enum State {
     Aborted,
 }
 
-// The two quorum sizes, kept apart as kinds of number.
-#[derive(Clone, Copy)]
+// The two quorum sizes, kept apart as kinds of number: document 01 has both types.
+#[derive(Clone, Copy, Debug, PartialEq, Eq)]
 pub struct CommitQuorum(pub usize);
 
-#[derive(Clone, Copy)]
+#[derive(Clone, Copy, Debug, PartialEq, Eq)]
 pub struct AbortQuorum(pub usize);
 
+// Each vector has sixteen entries whatever n: no heap.
 // One machine: what it knows of each site; the vector of its group record; up or down, its role, and the log's three places. The
-// vectors come first, so that a site is copied in whole words.
+// vectors come first, so that a site is copied in whole words. Codes are bytes and no `State`s, since a world can come with any: 17 refuses
+// those above 5.
 #[derive(Clone, Copy)]
 pub struct Site {
     pub codes: [u8; 16],

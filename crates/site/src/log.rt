@@ -1,4 +1,5 @@
 // Writing to the log. Each write also sets the own entry to the state it leads to.
+// Its code is handed in beside the group or outcome: what `join_group` and `write_outcome` promise, they promise of any code.
 ghost use Rattle.std.specs.Prelude.{◌≡◌, Bool, ◌<◌, set};
 ghost use Rattle.site.specs.Fields.{blank_site, with_group, with_outcome};
 ghost use Rattle.site.specs.Records.{write_prepare, with_own};
@@ -7,6 +8,7 @@ use crate::{Group, Outcome, Site};
 
 impl Site {
     // Up or down, subordinate, empty log, both vectors 0.
+    #[tactic(auto, unfolding(crate::specs::Fields::blank_site, crate::specs::Fields::zero_vector))]
     pub fn blank(up: bool) -> Site
         ensures { result ≡ blank_site up }
     {
@@ -21,6 +23,7 @@ impl Site {
         }
     }
 
+    #[tactic(auto, unfolding(crate::specs::Records::write_prepare, crate::specs::Fields::with_prepared, crate::specs::Records::with_own, crate::specs::Fields::with_codes))]
     pub fn write_prepare(mut self, own: usize) -> Site
         requires { own < 16 }
         ensures { result ≡ write_prepare own self }
@@ -31,6 +34,7 @@ impl Site {
     }
 
     // The group record, with the vector as it is after joining.
+    #[tactic(auto, unfolding(crate::specs::Fields::with_group, crate::specs::Records::with_own, crate::specs::Fields::with_codes))]
     pub fn join_group(mut self, own: usize, group: Group, code: u8) -> Site
         requires { own < 16 }
         ensures { result ≡ with_group group (set self.codes own code) (with_own own code self) }
@@ -44,6 +48,7 @@ impl Site {
         }
     }
 
+    #[tactic(auto, unfolding(crate::specs::Fields::with_outcome, crate::specs::Records::with_own, crate::specs::Fields::with_codes))]
     pub fn write_outcome(mut self, own: usize, outcome: Outcome, code: u8) -> Site
         requires { own < 16 }
         ensures { result ≡ with_outcome outcome (with_own own code self) }

@@ -1,34 +1,36 @@
 -- Reading lines.
 -- Refusal: 19 a line not in its form, or a number past its range, at the line's first byte.
-use Rattle.std.specs.Prelude.{ℕ, ◌+◌, List}
+use Rattle.std.specs.Prelude.{ℕ, ◌+◌, ◌≡◌, List, Option, Some, None}
 use Rattle.choice.specs.Choice.{pick}
 use Rattle.text.specs.Text.{text}
 use Rattle.scan.specs.declared.Number.{Number}
-use Rattle.scan.specs.declared.Numeral.{Numeral}
 use Rattle.scan.specs.Scan.{word_at, number_at, named_at, onward}
 use Rattle.command.specs.declared.Target.{Target}
 use Rattle.command.specs.declared.Command.{Command}
 use Rattle.command.specs.declared.Command.TheVariants as Command·
-use Rattle.command.specs.declared.Reading.{Reading}
+use Rattle.refusals.specs.declared.Reason.TheVariants as Reason·
+use Rattle.command.specs.Readings.{Reading}
 use Rattle.command.specs.Commands.{found, refused}
 use Rattle.spelling.specs.declared.HeaderLine.{HeaderLine}
-use Rattle.spelling.specs.declared.HeaderReading.{HeaderReading}
-use Rattle.spelling.specs.declared.HeaderReading.TheVariants as HeaderReading·
 
 -- a line that is not in its form
 unfoldable pub bad_line : ℕ → Reading
-bad_line at = refused 19 at
+bad_line at = refused Reason·.BadLine at
 
 -- the line feed after a line's last number
 unfoldable pub end_line : List ℕ → ℕ → Command → ℕ → Reading
 end_line s at command next = pick (word_at (text "\n") s next) (found command (next + 1)) (bad_line at)
 
+-- what is called with a target makes this command of it
+abbrev pub Makes : (Target → Command → Type 0) → (Target → Command) → Type 0
+Makes post make = (t : Target) (c : Command) → post t c → c ≡ make t
+
 -- the rest of a line that ends with a site number
-unfoldable pub site_end : (Target → Command) → List ℕ → ℕ → Numeral → Reading
+unfoldable pub site_end : (Target → Command) → List ℕ → ℕ → Option Number → Reading
 site_end command s at site = onward (bad_line at) site λ k. end_line s at (command (record { site = k.value })) k.next
 
 -- the rest of a line with a row number and then a site number
-unfoldable pub row_end : List ℕ → ℕ → Numeral → Reading
+unfoldable pub row_end : List ℕ → ℕ → Option Number → Reading
 row_end s at row =
     onward (bad_line at) row λ r.
     site_end (λ t. Command·.Deliver (record { row = r.value; site = t.site })) s at (named_at (text " ") 255 s r.next)
@@ -52,10 +54,10 @@ header_numbers n c a w =
     }
 
 -- THE FIRST LINE, at the text's beginning
-unfoldable pub read_header_line : List ℕ → HeaderReading
+unfoldable pub read_header_line : List ℕ → Option HeaderLine
 read_header_line s =
-    onward HeaderReading·.Missing (named_at (text "sites ") 255 s 0) λ n.
-    onward HeaderReading·.Missing (named_at (text " commit ") 255 s n.next) λ c.
-    onward HeaderReading·.Missing (named_at (text " abort ") 255 s c.next) λ a.
-    onward HeaderReading·.Missing (named_at (text " willing ") 65535 s a.next) λ w.
-    pick (word_at (text "\n") s w.next) (HeaderReading·.Found (header_numbers n c a w)) HeaderReading·.Missing
+    onward None (named_at (text "sites ") 255 s 0) λ n.
+    onward None (named_at (text " commit ") 255 s n.next) λ c.
+    onward None (named_at (text " abort ") 255 s c.next) λ a.
+    onward None (named_at (text " willing ") 65535 s a.next) λ w.
+    pick (word_at (text "\n") s w.next) (Some (header_numbers n c a w)) None

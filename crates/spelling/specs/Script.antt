@@ -1,9 +1,10 @@
 -- Commands one after the other, whichever way they are spelled.
 use Rattle.std.specs.Prelude.{ℕ, zero, suc, List, [], ◌∷◌, ◌++◌, ltb}
 use Rattle.choice.specs.Choice.{pick}
+use Rattle.refusals.specs.Refusals.{number_of}
 use Rattle.command.specs.declared.Command.{Command}
-use Rattle.command.specs.declared.Reading.{Reading}
-use Rattle.command.specs.declared.Reading.TheVariants as Reading·
+use Rattle.command.specs.Readings.{Reading}
+use Rattle.std.specs.Prelude.{Ok, Err}
 
 -- the commands read, and how the reading ended: number 0 at the end, or a refusal's number, with the place
 pub record Script : Type 0 where
@@ -19,8 +20,8 @@ first command s = record { number = s.number; place = s.place; commands = comman
 
 -- after one reading: its command and the others, or its refusal
 abbrev pub read_on : Reading → (ℕ → Script) → Script
-read_on (Reading·.Refused r) others = stop r.number r.place
-read_on (Reading·.Found p) others = first p.command (others p.next)
+read_on (Err r) others = stop (number_of r.reason) r.place
+read_on (Ok p) others = first p.command (others p.next)
 
 -- from a place on, to the end or the first refusal; `fuel` bounds the commands that are left, and is never met (`enough`)
 unfoldable pub script_from : ℕ → (ℕ → Reading) → ℕ → ℕ → Script

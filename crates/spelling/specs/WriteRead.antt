@@ -1,24 +1,23 @@
 -- Writing a list as lines, and reading lines as a list, of the first edition: the first byte is n. Commands are neither played nor checked beyond 6 and 7.
 -- The writer's refusals: 1 to 5 at 0; 6 and 7 at the command byte; 20 a buffer shorter than the output, at 0.
 -- The reader's: 19 over the whole text, at the first bad line; 1 and 3 to 5 of the list that it spells, at 0; 20 at 0.
-use Rattle.std.specs.Prelude.{ℕ, List, ◌++◌, ltb, eqb, length}
+use Rattle.std.specs.Prelude.{ℕ, List, ◌++◌, ltb, eqb, length, Option, Some, None}
 use Rattle.std.proofs.lemmas.List.Edits.{sets}
 use Rattle.choice.specs.Choice.{pick}
 use Rattle.world.specs.Sizes.{list_bytes}
 use Rattle.command.specs.declared.Command.{Command}
 use Rattle.command.specs.Commands.{read_command}
+use Rattle.spelling.specs.declared.HeaderLine.{HeaderLine}
 use Rattle.header.specs.declared.Header.{Header}
 use Rattle.header.specs.Headers.{first_header, first_sizes, first_number}
-use Rattle.spelling.specs.declared.Spelled.{Spelled}
-use Rattle.spelling.specs.declared.HeaderReading.{HeaderReading}
-use Rattle.spelling.specs.declared.HeaderReading.TheVariants as HeaderReading·
+use Rattle.spelling.specs.Answers.{Answer}
 use Rattle.spelling.specs.Spelling.{header_line, command_line, header_bytes, command_bytes}
 use Rattle.spelling.specs.LineReading.{read_line, read_header_line}
 use Rattle.spelling.specs.Script.{Script, script_from, spelled_by}
 
 -- what a call leaves: its answer, and the buffer
 pub record Output : Type 0 where
-  pub answer : Spelled
+  pub answer : Answer
   pub buffer : List ℕ
 
 -- a number with its place, and the buffer untouched
@@ -70,9 +69,9 @@ read_commands s h at buffer =
     pick (eqb (text_script s at).number 0) (read_list s h (text_script s at).commands buffer)
     (refuse (text_script s at).number (text_script s at).place buffer)
 
-unfoldable pub after_header : List ℕ → List ℕ → HeaderReading → Output
-after_header s buffer HeaderReading·.Missing = refuse 19 0 buffer
-after_header s buffer (HeaderReading·.Found l) = read_commands s l.header l.next buffer
+unfoldable pub after_header : List ℕ → List ℕ → Option HeaderLine → Output
+after_header s buffer None = refuse 19 0 buffer
+after_header s buffer (Some l) = read_commands s l.header l.next buffer
 
 -- READING LINES: text to list bytes
 unfoldable pub read_lines : List ℕ → List ℕ → Output

@@ -17,28 +17,10 @@ pub struct HeaderLine {
     pub next: usize,
 }
 
-#[derive(Clone, Copy)]
-pub enum HeaderReading {
-    Missing,
-    Found(HeaderLine),
-}
-
-// A call's answer beside the buffer: number (0: accepted), place, and the output's length.
+// What an accepted call says of the output: the place up to which the input was read, and the output's length in the caller's buffer.
+// That both are within bounds is promised by each call, since the bounds are those of its own list and buffer.
 #[derive(Clone, Copy)]
 pub struct Spelled {
-    pub number: u8,
     pub place: usize,
     pub length: usize,
-}
-
-impl Spelled {
-    pub fn refused(number: u8, place: usize) -> Spelled
-        ensures { result ≡ record { number = number; place = place; length = 0 } }
-    {
-        Spelled {
-            number,
-            place,
-            length: 0,
-        }
-    }
 }

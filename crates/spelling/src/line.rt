@@ -1,46 +1,47 @@
-// A header and a command as a line. Spelling wants room for six digits a number: where the lent buffer may lack it, a line is spelled into a buffer of
-// its own, and what is put into the lent one is then exactly the line.
+// No Display: see `text`. A header and a command have plain numbers, as a text or a list may hold them.
+// A header and a command as a line. Spelling wants room for six digits a number: where the page may lack it, a line is spelled on a page of
+// its own, and what is put on the other is then exactly the line.
 ghost use Rattle.std.specs.Prelude.{◌≡◌, ◌++◌, ◌+◌, ◌<◌, ◌≤◌, length};
 ghost use Rattle.text.specs.Text.{text, decimal};
-ghost use Rattle.text.specs.laws.Written.{Written};
+ghost use Rattle.text.specs.Page.{HasRoom, Put};
 ghost use Rattle.spelling.specs.Spelling.{header_line, command_line};
 ghost use Rattle.spelling.specs.Ranges.{HeaderInRange, InRange};
 
 use command::{Command, Delivery};
 use header::Header;
-use text::{decimal_length, put_byte, put_named, put_word};
+use text::{Page, decimal_length};
 
-fn spell_site(line: &mut [u8], at: usize, word: &[u8], site: usize) -> usize
-    requires { (site < 256) × (at + length word.now + 7 ≤ length line.old) }
-    ensures written { Written line.old at ((word.now ++ decimal site) ++ text "\n") line.new result }
-    ensures upper_bound { result ≤ at + length word.now + 7 }
+fn spell_site(page: &mut Page, word: &[u8], site: usize)
+    requires { (site < 256) × HasRoom page.old (length word.now + 7) }
+    ensures put { Put page.old ((word.now ++ decimal site) ++ text "\n") page.new }
+    ensures upper_bound { page.new.at ≤ page.old.at + length word.now + 7 }
 {
-    let at = put_named(line, at, word, site);
-    put_byte(line, at, b'\n')
+    page.put_named(word, site);
+    page.put_byte(b'\n');
 }
 
-fn spell_delivery(line: &mut [u8], at: usize, delivery: Delivery) -> usize
-    requires { (delivery.row < 65536) × (delivery.site < 256) × (at + 22 ≤ length line.old) }
-    ensures written { Written line.old at (command_line (Command.Deliver delivery)) line.new result }
-    ensures upper_bound { result ≤ at + 22 }
+fn spell_delivery(page: &mut Page, delivery: Delivery)
+    requires { (delivery.row < 65536) × (delivery.site < 256) × HasRoom page.old 22 }
+    ensures put { Put page.old (command_line (Command.Deliver delivery)) page.new }
+    ensures upper_bound { page.new.at ≤ page.old.at + 22 }
 {
-    let at = put_named(line, at, b"deliver ", delivery.row);
-    let at = put_named(line, at, b" ", delivery.site);
-    put_byte(line, at, b'\n')
+    page.put_named(b"deliver ", delivery.row);
+    page.put_named(b" ", delivery.site);
+    page.put_byte(b'\n');
 }
 
-// A command's line put at a place that has room for the longest; the place after it.
-fn spell_command(line: &mut [u8], at: usize, command: Command) -> usize
-    requires { InRange command × (at + 22 ≤ length line.old) }
-    ensures written { Written line.old at (command_line command) line.new result }
-    ensures upper_bound { result ≤ at + 22 }
+// A command's line put on a page that has room for the longest.
+fn spell_command(page: &mut Page, command: Command)
+    requires { InRange command × HasRoom page.old 22 }
+    ensures put { Put page.old (command_line command) page.new }
+    ensures upper_bound { page.new.at ≤ page.old.at + 22 }
 {
     match command {
-        Command::Start => put_word(line, at, b"start\n"),
-        Command::Deliver(d) => spell_delivery(line, at, d),
-        Command::Timeout(t) => spell_site(line, at, b"timeout ", t.site),
-        Command::Crash(t) => spell_site(line, at, b"crash ", t.site),
-        Command::Recover(t) => spell_site(line, at, b"recover ", t.site),
+        Command::Start => page.put_word(b"start\n"),
+        Command::Deliver(d) => spell_delivery(page, d),
+        Command::Timeout(t) => spell_site(page, b"timeout ", t.site),
+        Command::Crash(t) => spell_site(page, b"crash ", t.site),
+        Command::Recover(t) => spell_site(page, b"recover ", t.site),
     }
 }
 
@@ -58,31 +59,33 @@ pub fn line_length(command: Command) -> usize
     }
 }
 
-// A command's line put at a place; the place after it.
-pub fn put_line(buffer: &mut [u8], at: usize, command: Command) -> usize
-    requires { InRange command × (at + length (command_line command) ≤ length buffer.old) }
-    ensures { Written buffer.old at (command_line command) buffer.new result }
+// A command's line put on a page.
+pub fn put_line(page: &mut Page, command: Command)
+    requires { InRange command × HasRoom page.old (length (command_line command)) }
+    ensures { Put page.old (command_line command) page.new }
 {
-    if 22 <= buffer.len() - at {
-        return spell_command(buffer, at, command);
+    if 22 <= page.room() {
+        return spell_command(page, command);
     }
     let mut line = [0u8; 22];
-    let n = spell_command(&mut line, 0, command);
-    put_word(buffer, at, &line[..n])
+    let mut own = Page::new(&mut line);
+    spell_command(&mut own, command);
+    let n = own.at;
+    page.put_word(&line[..n]);
 }
 
-fn spell_header(line: &mut [u8], header: Header) -> usize
-    requires { HeaderInRange header × (55 ≤ length line.old) }
-    ensures written { Written line.old 0 (header_line header) line.new result }
-    ensures upper_bound { result ≤ 55 }
+fn spell_header(page: &mut Page, header: Header)
+    requires { HeaderInRange header × HasRoom page.old 55 }
+    ensures put { Put page.old (header_line header) page.new }
+    ensures upper_bound { page.new.at ≤ page.old.at + 55 }
 {
     let commit = header.commit;
     let abort = header.abort;
-    let at = put_named(line, 0, b"sites ", header.n);
-    let at = put_named(line, at, b" commit ", commit.0);
-    let at = put_named(line, at, b" abort ", abort.0);
-    let at = put_named(line, at, b" willing ", header.willing);
-    put_byte(line, at, b'\n')
+    page.put_named(b"sites ", header.n);
+    page.put_named(b" commit ", commit.0);
+    page.put_named(b" abort ", abort.0);
+    page.put_named(b" willing ", header.willing);
+    page.put_byte(b'\n');
 }
 
 // The length of the first line.
@@ -91,15 +94,19 @@ pub fn header_line_length(header: Header) -> usize
     ensures { (result ≡ length (header_line header)) × (result ≤ 55) }
 {
     let mut line = [0u8; 55];
-    spell_header(&mut line, header)
+    let mut page = Page::new(&mut line);
+    spell_header(&mut page, header);
+    page.at
 }
 
-// The first line put at the buffer's beginning; the place after it.
-pub fn put_header_line(buffer: &mut [u8], header: Header) -> usize
-    requires { HeaderInRange header × (length (header_line header) ≤ length buffer.old) }
-    ensures { Written buffer.old 0 (header_line header) buffer.new result }
+// The first line put on a page.
+pub fn put_header_line(page: &mut Page, header: Header)
+    requires { HeaderInRange header × HasRoom page.old (length (header_line header)) }
+    ensures { Put page.old (header_line header) page.new }
 {
     let mut line = [0u8; 55];
-    let n = spell_header(&mut line, header);
-    put_word(buffer, 0, &line[..n])
+    let mut own = Page::new(&mut line);
+    spell_header(&mut own, header);
+    let n = own.at;
+    page.put_word(&line[..n]);
 }

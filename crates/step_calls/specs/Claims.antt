@@ -2,7 +2,7 @@
 use Rattle.std.specs.Prelude.{true, List, ◌∷◌, ◌≡◌, ℕ, length}
 use Rattle.layout.specs.Layout.{site_at, site_in_layout}
 use Rattle.member.specs.declared.Order.TheVariants as Order·
-use Rattle.member.specs.declared.Heard.TheVariants as Heard·
+use Rattle.std.specs.Prelude.{Ok}
 use Rattle.member.specs.Orders.{row_in, read_order}
 use Rattle.member.specs.Steps.{Answer, site_step}
 use Rattle.step_calls.specs.StepCalls.{site_bytes, member_at, StepLeft, step_call}
@@ -12,7 +12,7 @@ pub record Crosses (left : StepLeft) (a : Answer) : Type 0 where
   pub long : length left.site ≡ site_bytes
   pub inside : site_in_layout left.site 0 ≡ true
   pub same-site : site_at left.site 0 ≡ a.site
-  pub delivers : (a.row.kind ≡ 0 → ⊥) → read_order (2 ∷ left.row) ≡ Heard·.Found Order·.Deliver
+  pub delivers : (a.row.kind ≡ 0 → ⊥) → read_order (2 ∷ left.row) ≡ Ok Order·.Deliver
   pub same_row : (a.row.kind ≡ 0 → ⊥) → row_in (2 ∷ left.row) ≡ a.row
 
 -- an accepted step

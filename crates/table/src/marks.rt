@@ -1,4 +1,5 @@
 // 17's check of the kept places, in one pass that marks each row where it is held.
+// docs/TRUST.md names `valid_table`: places of 16 bits, 0 for a free one, and row counts beside them. The marks are one array: no heap.
 ghost use Rattle.std.specs.Prelude.{◌≡◌, ℕ, ◌≤◌, ◌<◌, length, get_or};
 ghost use Rattle.choice.specs.Choice.{pick};
 ghost use Rattle.table.specs.Table.{valid_table};
@@ -17,7 +18,7 @@ fn mark(rows: &[usize; 16], x: u16, marks: &mut [u8]) -> bool
     if 16384 < x {
         return false;
     }
-    let y = x as usize - 1;
+    let y = usize::from(x) - 1;
     if rows[y / 1024] <= y % 1024 {
         return false;
     }
@@ -33,28 +34,15 @@ fn rows_marked(marks: &[u8], c: usize, count: usize) -> bool
     requires { (length marks.now ≡ 16384) × (c < 16) × (count ≤ 1024) }
     ensures { result ≡ rows_marked marks.now c count }
 {
-    let mut k = 0;
-    while k < count {
-        if marks[1024 * c + k] != 1 {
-            return false;
-        }
-        k += 1;
-    }
-    true
+    let first = 1024 * c;
+    marks[first..first + count].iter().all(|&mark| mark == 1)
 }
 
 fn all_marked(rows: [usize; 16], marks: &[u8]) -> bool
     requires { (length marks.now ≡ 16384) × ((c : ℕ) → c < 16 → get_or rows c 0 ≤ 1024) }
     ensures { result ≡ all_marked (λ c. get_or rows c 0) marks.now }
 {
-    let mut c = 0;
-    while c < 16 {
-        if !rows_marked(marks, c, rows[c]) {
-            return false;
-        }
-        c += 1;
-    }
-    true
+    (0..16).all(|c| rows_marked(marks, c, rows[c]))
 }
 
 // Each competition has every row number below its row count at exactly one place, and the places hold nothing else.
@@ -63,12 +51,10 @@ pub fn valid_table(rows: [usize; 16], held: &[u16]) -> bool
     ensures { result ≡ valid_table (λ c. get_or rows c 0) held.now }
 {
     let mut marks = [0u8; 16384];
-    let mut p = 0;
-    while p < held.len() {
-        if !mark(&rows, held[p], &mut marks) {
+    for &x in held {
+        if !mark(&rows, x, &mut marks) {
             return false;
         }
-        p += 1;
     }
     all_marked(rows, &marks)
 }

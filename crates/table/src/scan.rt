@@ -1,24 +1,23 @@
 // The place that holds a row; for 0 the lowest free place.
-ghost use Rattle.std.specs.Prelude.{◌≡◌, ℕ, ◌<◌, get_or};
+ghost use Rattle.std.specs.Prelude.{◌≡◌, ℕ, ◌<◌, length, get_or, MatchOption};
 ghost use Rattle.table.specs.Table.{place_of};
 
-// The lowest place that holds x, where none below `from` does; the number of places where none does.
-pub fn place_from(held: &[u16], x: u16, from: usize) -> usize
+// The lowest place that holds x, where none below `from` does.
+#[tactic(auto, using(crate::specs::laws::LoopLaws::scan_finds, crate::specs::laws::LoopLaws::scan_fails))]
+pub fn place_from(held: &[u16], x: u16, from: usize) -> Option<usize>
     requires { (p : ℕ) → p < from → get_or held.now p 0 ≡ x → ⊥ }
-    ensures { result ≡ place_of x held.now }
+    ensures { MatchOption result (place_of x held.now ≡ length held.now) (λ p. (p ≡ place_of x held.now) × (p < length held.now)) }
 {
-    let mut p = from;
-    while p < held.len() {
+    for p in from..held.len() {
         if held[p] == x {
-            return p;
+            return Some(p);
         }
-        p += 1;
     }
-    held.len()
+    None
 }
 
-pub fn place_of(held: &[u16], x: u16) -> usize
-    ensures { result ≡ place_of x held.now }
+pub fn place_of(held: &[u16], x: u16) -> Option<usize>
+    ensures { MatchOption result (place_of x held.now ≡ length held.now) (λ p. (p ≡ place_of x held.now) × (p < length held.now)) }
 {
     place_from(held, x, 0)
 }

@@ -1,7 +1,6 @@
 -- Texts as bytes: quoted words, and decimal numbers without leading noughts.
 use Rattle.std.specs.Prelude.{ℕ, ◌+◌, ◌/◌, ◌%◌, List, [], ◌∷◌, ◌++◌, leb}
 use Prim.Native.String.{String}
-use Prim.Native.String
 use Prim.Native.Char.{code}
 use Rattle.choice.specs.Choice.{pick}
 

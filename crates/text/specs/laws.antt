@@ -1,4 +1,4 @@
 pub mod Written
-pub mod TextLaws
+pub mod PageLaws
 pub mod DecimalLaws
 pub mod DigitLaws

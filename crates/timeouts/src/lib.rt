@@ -1,17 +1,24 @@
 // TIMEOUT in each state but active.
+// Codes go with `vector::count`, `join_group` and `write_outcome`, which take any; own and n are plain numbers, see `participant`.
 #![tactic(auto)]
 
-ghost use Rattle.std.specs.Prelude.{◌≡◌, ◌<◌, ◌≤◌};
+ghost use Rattle.std.specs.Prelude.{◌≡◌, [], ◌<◌, ◌≤◌};
 ghost use Rattle.choice.specs.Choice.{pick};
-ghost use Rattle.rules.specs.Rules.{take_over, choose_group, decide_commit, decide_abort};
+ghost use Rattle.row.specs.Messages.{kind_number};
+ghost use Rattle.site.specs.Fields.{with_outcome};
+ghost use Rattle.site.specs.Records.{with_own};
+ghost use Rattle.rules.specs.Rules.{commanding, take_over, choose_group, decide_commit, decide_abort};
+ghost use Rattle.rules.specs.Steps.{stepped};
 
+use row::Kind;
 use rules::{Step, commanding};
 use site::{AbortQuorum, CommitQuorum, Group, Outcome, Site};
 
 // Become coordinator and send the command of the state.
-pub fn take_over(kind: u8, own: usize, n: usize, mut site: Site) -> Step
+#[tactic(auto, unfolding(rules::specs::Rules::take_over, rules::specs::Rules::commanding, rules::specs::Rules::command_row, site::specs::Fields::with_coordinator))]
+pub fn take_over(kind: Kind, own: usize, n: usize, mut site: Site) -> Step
     requires { (n ≤ 16) × (own < n) }
-    ensures { result ≡ (take_over kind own n site).step }
+    ensures { stepped result ≡ (take_over (kind_number kind) own n site).step }
 {
     site.coordinator = true;
     commanding(kind, own, n, site)
@@ -20,21 +27,59 @@ pub fn take_over(kind: u8, own: usize, n: usize, mut site: Site) -> Step
 #[tactic(auto, using(choice::specs::laws::ChoiceLaws::tests), unfolding(rules::specs::Rules::choose_group, rules::specs::Rules::commanding, site::specs::Records::join_group, site::specs::Records::group_of, site::specs::Records::record_code))]
 pub fn timeout_prepared(own: usize, n: usize, site: Site) -> Step
     requires { (n ≤ 16) × (own < n) }
-    ensures { result ≡ (pick site.coordinator (choose_group own n site) (take_over 1 own n site)).step }
+    ensures { stepped result ≡ (pick site.coordinator (choose_group own n site) (take_over 1 own n site)).step }
 {
-    if site.coordinator {
-        let codes = site.codes;
-        if vector::count(n, codes, 1) == n {
-            return commanding(3, own, n, site.join_group(own, Group::Commit, 2));
-        }
-        if 0 < vector::count(n, codes, 2) {
-            return commanding(3, own, n, site.join_group(own, Group::Commit, 2));
-        }
-        return commanding(4, own, n, site.join_group(own, Group::Abort, 3));
+    if !site.coordinator {
+        return take_over(Kind::Prepare, own, n, site);
     }
-    take_over(1, own, n, site)
+    let codes = site.codes;
+    if vector::count(n, codes, 1) == n || 0 < vector::count(n, codes, 2) {
+        return commanding(
+            Kind::JoinCommit,
+            own,
+            n,
+            site.join_group(own, Group::Commit, 2),
+        );
+    }
+    commanding(
+        Kind::JoinAbort,
+        own,
+        n,
+        site.join_group(own, Group::Abort, 3),
+    )
 }
 
+// In a group: its coordinator writes the outcome where the quorum is reached, and else sends the join again.
+#[tactic(auto, unfolding(rules::specs::Rules::commanding))]
+fn timeout_in_group(
+    join: Kind,
+    reached: bool,
+    outcome: Outcome,
+    code: u8,
+    own: usize,
+    n: usize,
+    site: Site,
+) -> Step
+    requires { (n ≤ 16) × (own < n) }
+    ensures { stepped result ≡ (pick site.coordinator
+        (pick reached (commanding 6 own n (with_outcome outcome (with_own own code site)) []) (commanding (kind_number join) own n site []))
+        (take_over (kind_number join) own n site)).step }
+{
+    if !site.coordinator {
+        return take_over(join, own, n, site);
+    }
+    if reached {
+        return commanding(
+            Kind::Outcome,
+            own,
+            n,
+            site.write_outcome(own, outcome, code),
+        );
+    }
+    commanding(join, own, n, site)
+}
+
+#[tactic(auto, unfolding(rules::specs::Rules::decide_commit, rules::specs::Rules::commanding, site::specs::Records::write_outcome, site::specs::Records::outcome_of, site::specs::Records::record_code))]
 pub fn timeout_in_commit_group(
     own: usize,
     n: usize,
@@ -43,18 +88,14 @@ pub fn timeout_in_commit_group(
     site: Site,
 ) -> Step
     requires { (n ≤ 16) × (own < n) }
-    ensures { result ≡ (pick site.coordinator (decide_commit own n weights commit site) (take_over 3 own n site)).step }
+    ensures { stepped result ≡ (pick site.coordinator (decide_commit own n weights commit site) (take_over 3 own n site)).step }
 {
-    if site.coordinator {
-        let codes = site.codes;
-        if commit.reached(weights, n, codes) {
-            return commanding(6, own, n, site.write_outcome(own, Outcome::Commit, 4));
-        }
-        return commanding(3, own, n, site);
-    }
-    take_over(3, own, n, site)
+    let codes = site.codes;
+    let reached = commit.reached(weights, n, codes);
+    timeout_in_group(Kind::JoinCommit, reached, Outcome::Commit, 4, own, n, site)
 }
 
+#[tactic(auto, unfolding(rules::specs::Rules::decide_abort, rules::specs::Rules::commanding, site::specs::Records::write_outcome, site::specs::Records::outcome_of, site::specs::Records::record_code))]
 pub fn timeout_in_abort_group(
     own: usize,
     n: usize,
@@ -63,14 +104,9 @@ pub fn timeout_in_abort_group(
     site: Site,
 ) -> Step
     requires { (n ≤ 16) × (own < n) }
-    ensures { result ≡ (pick site.coordinator (decide_abort own n weights abort site) (take_over 4 own n site)).step }
+    ensures { stepped result ≡ (pick site.coordinator (decide_abort own n weights abort site) (take_over 4 own n site)).step }
 {
-    if site.coordinator {
-        let codes = site.codes;
-        if abort.reached(weights, n, codes) {
-            return commanding(6, own, n, site.write_outcome(own, Outcome::Abort, 5));
-        }
-        return commanding(4, own, n, site);
-    }
-    take_over(4, own, n, site)
+    let codes = site.codes;
+    let reached = abort.reached(weights, n, codes);
+    timeout_in_group(Kind::JoinAbort, reached, Outcome::Abort, 5, own, n, site)
 }

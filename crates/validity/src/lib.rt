@@ -5,6 +5,5 @@ mod limits;
 mod sites;
 mod whole;
 
-pub use limits::valid_limits;
-pub use sites::valid_through;
+pub use limits::Limits;
 pub use whole::{valid_head, valid_world};

@@ -1,41 +1,34 @@
-// A vector as 17 wants it. The limits are made once for all vectors of a world, so that the compiler compares sixteen entries at once.
-ghost use Rattle.std.specs.Prelude.{◌≡◌, ◌≤◌, leb};
-ghost use Rattle.choice.specs.Choice.{both};
-ghost use Rattle.validity.specs.laws.Limits.{limits_to, within};
+// A vector as 17 wants it. The limits are made once for all vectors of a world, and sixteen entries are compared with them at once.
+ghost use Rattle.std.specs.Prelude.{◌≡◌, ◌≤◌};
+ghost use Rattle.vector.specs.Vector.{valid_vector};
+ghost use Rattle.validity.specs.laws.Limits.{limits_to};
 
 // What each entry may be at most: 5 below n, 0 from n up.
-pub fn valid_limits(n: usize) -> [u8; 16]
-    requires { n ≤ 16 }
-    ensures { result ≡ limits_to n }
-{
-    let mut limits = [0; 16];
-    let mut k = 0;
-    while k < n {
-        limits[k] = 5;
-        k += 1;
-    }
-    limits
+#[derive(Clone, Copy)]
+pub struct Limits {
+    n: usize,
+    most: [u8; 16],
+    ghost made: { most ≡ limits_to n },
 }
 
-// The entries before are within their limits, and this one is.
-fn within_through(before: bool, limit: u8, code: u8) -> bool
-    ensures { result ≡ both before (leb code limit) }
-{
-    if before {
-        return code <= limit;
+impl Limits {
+    pub fn new(n: usize) -> Limits
+        requires { n ≤ 16 }
+        ensures { result.n ≡ n }
+    {
+        let mut most = [0; 16];
+        most[..n].fill(5);
+        Limits { n, most }
     }
-    false
-}
 
-// Every entry is within its limit.
-pub fn valid_within(limits: [u8; 16], codes: [u8; 16]) -> bool
-    ensures { result ≡ within 16 limits codes }
-{
-    let mut valid = true;
-    let mut k = 0;
-    while k < 16 {
-        valid = within_through(valid, limits[k], codes[k]);
-        k += 1;
+    // Every entry is within its limit. Folded to the end: `all` stops early, and then one entry is compared after another.
+    pub(crate) fn admit(self, codes: [u8; 16]) -> bool
+        ensures { result ≡ valid_vector self.n codes }
+    {
+        let most = self.most;
+        codes
+            .iter()
+            .zip(most.iter())
+            .fold(true, |valid, (code, limit)| valid & (code <= limit))
     }
-    valid
 }

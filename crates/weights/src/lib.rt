@@ -9,7 +9,7 @@ mod valid;
 pub use checked::measured;
 pub use made::{even_weights, few_sites};
 
-// Whether weights are as 21 and 17 want them, their sum and the largest.
+// Whether weights are as 21 and 17 want them, their sum and the largest: no Option, since `measured` tells the two of weights that are refused too.
 #[derive(Clone, Copy)]
 pub struct Measures {
     pub valid: bool,

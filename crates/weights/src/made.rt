@@ -6,22 +6,14 @@ ghost use Rattle.weights.specs.Weights.{weights_by, even_weights};
 pub fn few_sites(n: usize) -> usize
     ensures { (result ≤ 16) × ((f : ℕ → ℕ) → weights_by f result ≡ weights_by f n) }
 {
-    if n < 16 {
-        return n;
-    }
-    16
+    n.min(16)
 }
 
 // 1 for each site.
 pub fn even_weights(n: usize) -> [u8; 16]
     ensures { result ≡ even_weights n }
 {
-    let sites = few_sites(n);
     let mut weights = [0; 16];
-    let mut k = 0;
-    while k < sites {
-        weights[k] = 1;
-        k += 1;
-    }
+    weights[..few_sites(n)].fill(1);
     weights
 }

@@ -1,10 +1,2 @@
-// Bytes as wider numbers.
+// Numbers of 16 bits in bytes. Definitions only: see specs/.
 #![tactic(auto)]
-
-ghost use Rattle.std.specs.Prelude.{◌≡◌, ◌<◌};
-
-pub fn wide(byte: u8) -> usize
-    ensures { (result ≡ byte) × (result < 256) }
-{
-    byte as usize
-}

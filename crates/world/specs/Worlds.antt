@@ -6,6 +6,7 @@ use Rattle.site.specs.declared.Site.{Site}
 use Rattle.site.specs.Fields.{blank_site}
 use Rattle.site.specs.declared.CommitQuorum.{CommitQuorum}
 use Rattle.site.specs.declared.AbortQuorum.{AbortQuorum}
+use Rattle.world.specs.declared.check.Sizes.{Sizes}
 use Rattle.world.specs.declared.World.{World}
 use Rattle.world.specs.Sizes.{sizes_number}
 
@@ -47,6 +48,10 @@ fresh_world n weights c a willing =
       news = 0;
     })
     zero_world
+
+-- the sizes of a world
+abbrev pub sizes_held : World → Sizes
+sizes_held w = record { n = w.n; weights = w.weights; commit = w.commit; abort = w.abort; willing = w.willing }
 
 -- a site of a world
 unfoldable pub site_of : World → ℕ → Site

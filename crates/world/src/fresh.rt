@@ -2,8 +2,7 @@
 ghost use Rattle.std.specs.Prelude.{◌≡◌, ◌≤◌};
 ghost use Rattle.world.specs.Worlds.{zero_world, fresh_sites, fresh_world};
 
-use crate::World;
-use crate::sizes::sizes_number;
+use crate::{Sizes, World};
 use site::{AbortQuorum, CommitQuorum, Site};
 
 // The sites below n up, the others down.
@@ -11,14 +10,8 @@ fn fresh_sites(n: usize) -> [Site; World::SITES]
     requires { n ≤ 16 }
     ensures { result ≡ fresh_sites n }
 {
-    let down = Site::blank(false);
-    let up = Site::blank(true);
-    let mut sites = [down; World::SITES];
-    let mut k = 0;
-    while k < n {
-        sites[k] = up;
-        k += 1;
-    }
+    let mut sites = [Site::blank(false); World::SITES];
+    sites[..n].fill(Site::blank(true));
     sites
 }
 
@@ -39,26 +32,21 @@ impl World {
         }
     }
 
-    // A fresh world, or the world of zeros for refused sizes.
+    // A fresh world, or the world of zeros for refused sizes: any caller may hand in any.
     #[tactic(auto, using(choice::specs::laws::ChoiceLaws::tests), unfolding(crate::specs::Worlds::fresh_world))]
-    pub fn fresh(
-        n: usize,
-        weights: [u8; 16],
-        commit: CommitQuorum,
-        abort: AbortQuorum,
-        willing: usize,
-    ) -> World
-        ensures { result ≡ fresh_world n weights commit abort willing }
+    pub fn fresh(sizes: Sizes) -> World
+        ensures { result ≡ fresh_world sizes.n sizes.weights sizes.commit sizes.abort sizes.willing }
     {
-        if sizes_number(n, weights, commit, abort, willing) != 0 {
+        if sizes.check().is_err() {
             return World::zero();
         }
+        let weights = sizes.weights;
         World {
-            sites: fresh_sites(n),
-            n,
-            commit,
-            abort,
-            willing,
+            sites: fresh_sites(sizes.n),
+            n: sizes.n,
+            commit: sizes.commit,
+            abort: sizes.abort,
+            willing: sizes.willing,
             weights,
             rows: 0,
             news: 0,

@@ -1,12 +1,13 @@
 // The world of a competition: its sizes and its maker.
 #![tactic(auto)]
 
+mod check;
 mod fresh;
 mod parts;
-mod sizes;
 
-pub use sizes::{sites_fit, sizes_number};
+pub use check::{Sizes, sites_fit};
 
+// Sixteen sites and weights whatever n, the weights together, as the layout has them: so sixteen are compared at once.
 #[derive(Clone, Copy)]
 pub struct World {
     pub sites: [site::Site; World::SITES],

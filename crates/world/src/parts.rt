@@ -1,8 +1,8 @@
-// A site of a world.
+// Parts of a world.
 ghost use Rattle.std.specs.Prelude.{◌≡◌, ◌<◌};
-ghost use Rattle.world.specs.Worlds.{site_of};
+ghost use Rattle.world.specs.Worlds.{site_of, sizes_held};
 
-use crate::World;
+use crate::{Sizes, World};
 use site::Site;
 
 impl World {
@@ -11,5 +11,18 @@ impl World {
         ensures { result ≡ site_of self i }
     {
         self.sites[i]
+    }
+
+    pub fn sizes(self) -> Sizes
+        ensures { result ≡ sizes_held self }
+    {
+        let weights = self.weights;
+        Sizes {
+            n: self.n,
+            weights,
+            commit: self.commit,
+            abort: self.abort,
+            willing: self.willing,
+        }
     }
 }

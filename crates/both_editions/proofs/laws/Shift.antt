@@ -8,11 +8,14 @@ use Rattle.choice.specs.Choice.{pick}
 use Rattle.choice.specs.laws.Cases.{by_test}
 use Rattle.rules.specs.Rules.{Move}
 use Rattle.row.specs.declared.Row.{Row}
+use Rattle.refusals.specs.declared.Reason.{Reason}
+use Rattle.refusals.specs.declared.Reason.TheVariants as Reason·
+use Rattle.refusals.specs.Refusals.{number_of}
 use Rattle.command.specs.declared.Command.{Command}
 use Rattle.command.specs.declared.Command.TheVariants as Command·
 use Rattle.command.specs.declared.Target.{Target}
-use Rattle.command.specs.declared.Reading.{Reading}
-use Rattle.command.specs.declared.Reading.TheVariants as Reading·
+use Rattle.command.specs.Readings.{Reading}
+use Rattle.std.specs.Prelude.{Ok, Err}
 use Rattle.command.specs.Commands.{found, refused, target, delivery, read_target, read_delivery, read_byte, read_command}
 use Rattle.world.specs.declared.World.{World}
 use Rattle.world.specs.Sizes.{store_bytes}
@@ -33,8 +36,8 @@ use Rattle.play.specs.Commands.{
 
 -- what is read, and a call, with their places further on
 unfoldable pub reading_on : ℕ → Reading → Reading
-reading_on h (Reading·.Found p) = found p.command (h + p.next)
-reading_on h (Reading·.Refused r) = refused r.number (h + r.place)
+reading_on h (Ok p) = found p.command (h + p.next)
+reading_on h (Err r) = refused r.reason (h + r.place)
 
 unfoldable pub call_on : ℕ → Call → Call
 call_on h c =
@@ -75,23 +78,23 @@ module _ (list : List ℕ) (h : ℕ) (inside : h ≤ length list) where
   unfolding reading_on found
   found-on command at i = let e : h + at + i ≡ h + (at + i) = omega arith in ap (found command) e
 
-  refused-on : (number at : ℕ) → refused number (h + at) ≡ reading_on h (refused number at)
+  refused-on : (reason : Reason) (at : ℕ) → refused reason (h + at) ≡ reading_on h (refused reason at)
   unfolding reading_on refused
-  refused-on number at = refl
+  refused-on reason at = refl
 
   target-on : (command : Target → Command) (at : ℕ) → read_target command list (h + at) ≡ reading_on h (read_target command (drop h list) at)
   unfolding read_target target
   target-on command at =
-      read-pick _ (leb (at + 2) (length (drop h list))) _ _ (found (command (target (drop h list) at)) (at + 2)) (refused 7 at) (within_on at 2)
+      read-pick _ (leb (at + 2) (length (drop h list))) _ _ (found (command (target (drop h list) at)) (at + 2)) (refused Reason·.OperandsCut at) (within_on at 2)
       (ap (λ b. found (command (record { site = b })) (h + at + 2)) (byte_on at 1) ∙ found-on (command (target (drop h list) at)) at 2)
-      (refused-on 7 at)
+      (refused-on Reason·.OperandsCut at)
 
   delivery-on : (at : ℕ) → read_delivery list (h + at) ≡ reading_on h (read_delivery (drop h list) at)
   unfolding read_delivery delivery
   delivery-on at =
-      read-pick _ (leb (at + 4) (length (drop h list))) _ _ (found (Command·.Deliver (delivery (drop h list) at)) (at + 4)) (refused 7 at) (within_on at 4)
+      read-pick _ (leb (at + 4) (length (drop h list))) _ _ (found (Command·.Deliver (delivery (drop h list) at)) (at + 4)) (refused Reason·.OperandsCut at) (within_on at 4)
       (rw (byte_on at 1, byte_on at 2, byte_on at 3) (found-on (Command·.Deliver (delivery (drop h list) at)) at 4))
-      (refused-on 7 at)
+      (refused-on Reason·.OperandsCut at)
 
   byte_read_on : (b at : ℕ) → read_byte b list (h + at) ≡ reading_on h (read_byte b (drop h list) at)
   unfolding read_byte
@@ -100,14 +103,14 @@ module _ (list : List ℕ) (h : ℕ) (inside : h ≤ length list) where
       (read-pick (eqb b 2) (eqb b 2) _ _ (read_delivery (drop h list) at) _ refl (delivery-on at)
       (read-pick (eqb b 3) (eqb b 3) _ _ (read_target Command·.Timeout (drop h list) at) _ refl (target-on Command·.Timeout at)
       (read-pick (eqb b 4) (eqb b 4) _ _ (read_target Command·.Crash (drop h list) at) _ refl (target-on Command·.Crash at)
-      (read-pick (eqb b 5) (eqb b 5) _ _ (read_target Command·.Recover (drop h list) at) (refused 6 at) refl (target-on Command·.Recover at) (refused-on 6 at)))))
+      (read-pick (eqb b 5) (eqb b 5) _ _ (read_target Command·.Recover (drop h list) at) (refused Reason·.NoCommand at) refl (target-on Command·.Recover at) (refused-on Reason·.NoCommand at)))))
 
   pub command-on : (at : ℕ) → read_command list (h + at) ≡ reading_on h (read_command (drop h list) at)
   unfolding read_command
   command-on at =
-      read-pick _ (ltb at (length (drop h list))) _ _ (read_byte (get_or (drop h list) at 0) (drop h list) at) (refused 6 at) (below_on at)
+      read-pick _ (ltb at (length (drop h list))) _ _ (read_byte (get_or (drop h list) at 0) (drop h list) at) (refused Reason·.NoCommand at) (below_on at)
       (ap (λ b. read_byte b list (h + at)) (sym (get_or-drop h list at 0)) ∙ byte_read_on (get_or (drop h list) at 0) at)
-      (refused-on 6 at)
+      (refused-on Reason·.NoCommand at)
 
 -- PERFORMING, with places further on
 module _ (h : ℕ) (w : World) (store : List ℕ) where
@@ -145,8 +148,8 @@ module _ (h : ℕ) (w : World) (store : List ℕ) where
 
   read_on_lem : (r : Reading) (at : ℕ) → perform_read (reading_on h r) w store (h + at) ≡ call_on h (perform_read r w store at)
   unfolding perform_read reading_on found refused
-  read_on_lem (Reading·.Found p) at = perform-on p.command at p.next
-  read_on_lem (Reading·.Refused r) at = refuse-on r.number r.place
+  read_on_lem (Ok p) at = perform-on p.command at p.next
+  read_on_lem (Err r) at = refuse-on (number_of r.reason) r.place
 
   -- ONE COMMAND after a header
   pub one_on : (list : List ℕ) (at : ℕ) → h ≤ length list → one_command w store list (h + at) ≡ call_on h (one_command w store (drop h list) at)

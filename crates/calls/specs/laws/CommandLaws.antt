@@ -3,16 +3,15 @@ use Rattle.std.specs.Prelude.{ℕ, ◌≤◌, ◌<◌, true, false, List, ◌≡
 use Rattle.std.proofs.Math.Path.{ap, sym}
 use Rattle.std.proofs.Common.{◌∙◌, le-ltb}
 use Rattle.site.specs.declared.Site.{Site}
-use Rattle.command.specs.declared.Reading.{Reading}
+use Rattle.command.specs.Readings.{Reading}
 use Rattle.command.specs.Commands.{read_command}
 use Rattle.world.specs.Sizes.{store_bytes}
 use Rattle.world.specs.Worlds.{with_site, with_rows, with_news}
 use Rattle.world.specs.Valid.{valid_world}
 use Rattle.play.specs.declared.Head.{Head}
-use Rattle.play.specs.declared.Change.{Change}
 use Rattle.play.specs.Calls.{refuse, played_of}
 use Rattle.play.specs.Commands.{perform_read, play_command, one_command}
-use Rattle.play.specs.laws.Changes.{Ready, Acts, head_of, world_of, changed, actor}
+use Rattle.play.specs.laws.Changes.{Ready, Acts, SiteChange, head_of, world_of, changed, actor}
 use Rattle.play.specs.laws.CallLaws.{ready, one-is_play, acts_played}
 use Rattle.layout.specs.Numbers.{put_number}
 use Rattle.layout.specs.Layout.{site_place, site_at, put_world, world_at, in_layout}
@@ -44,17 +43,17 @@ pub playable_ready :
 playable_ready world store result h p e = rw e (ready (world_at world) store p.room p.valid)
 
 -- the change c at site `own`, with the store left, is the call
-record Acted (world store list : List ℕ) (at own : ℕ) (c : Change) (after : List ℕ) : Type 0 where
+record Acted (world store list : List ℕ) (at own : ℕ) (c : SiteChange) (after : List ℕ) : Type 0 where
   number : c.number ≡ (one_command (world_at world) store list at).number
   world-left : with_news c.news (with_rows c.rows (with_site own c.site (world_at world))) ≡ (one_command (world_at world) store list at).world
   place : c.place ≡ (one_command (world_at world) store list at).place
   store-left : after ≡ (one_command (world_at world) store list at).store
 
 module _
-    (world store list : List ℕ) (at : ℕ) (result : List ℕ) (reading : Reading) (h : Head) (own : ℕ) (s : Site) (c : Change)
+    (world store list : List ℕ) (at : ℕ) (result : List ℕ) (reading : Reading) (h : Head) (own : ℕ) (s : Site) (c : SiteChange)
     (after : List ℕ) (p : Playable world store result) (e : reading ≡ read_command list at) (f : h ≡ head_of (world_at world))
-    (g : own ≡ actor reading h.n) (low : own < 16) (i : s ≡ site_at world (site_place own))
-    (acts : Acts h (actor reading h.n) s c after (λ w. perform_read reading w store at)) where
+    (g : own ≡ actor reading h.sizes.n) (low : own < 16) (i : s ≡ site_at world (site_place own))
+    (acts : Acts h (actor reading h.sizes.n) s c after (λ w. perform_read reading w store at)) where
   played :
       (changed (world_at world) own c ≡ played_of (play_command (world_at world) store list at))
       × (after ≡ (play_command (world_at world) store list at).store)

@@ -1,7 +1,10 @@
 -- Laws of a list with a value stored at each of its first places, of a sum over places and of a test at each: what loops over a list leave.
-use Rattle.std.specs.Prelude.{ℕ, zero, suc, ◌+◌, ◌*◌, ◌≤◌, ◌<◌, Bool, true, false, List, ◌≡◌, refl, length, get_or, set}
+use Rattle.std.specs.Prelude.{ℕ, zero, suc, ◌+◌, ◌*◌, ◌-◌, ◌++◌, drop, ltb, ◌≤◌, ◌<◌, Bool, true, false, List, ◌≡◌, refl, length, get_or, set}
 use Rattle.std.proofs.lemmas.Bool.{false≢true}
-use Rattle.std.proofs.Common.{ap, sym, ◌∙◌, suc-mul, arith, length-set, get_or-set_same, get_or-set_other}
+use Rattle.std.proofs.lemmas.Grind.{same_number_lists}
+use Rattle.std.proofs.Math.ListN.{get_or-append}
+use Rattle.std.proofs.lemmas.List.{get_or-append-add, get_or-drop}
+use Rattle.std.proofs.Common.{ap, sym, ◌∙◌, suc-mul, arith, ltb-true, ltb-false, length-append, length-drop, length-set, get_or-set_same, get_or-set_other}
 use Rattle.std.proofs.Math.Seq.{set_out}
 use Rattle.choice.specs.Choice.{both}
 use Rattle.choice.specs.laws.Cases.{by_test, by_equal}
@@ -50,6 +53,22 @@ stored_past f zero l past = let e : 0 ≡ length l = omega arith in ap (λ n. st
 stored_past f (suc k) l past =
     by_equal (length l) (suc k) (λ e. ap (λ n. stored_to f n l) (sym e))
     (λ e. set_out (stored_to f k l) k (f k) (rw stored_length (omega arith)) ∙ stored_past f k l (omega arith))
+
+-- and a list whose values are f's, followed by the rest, is what storing makes
+pub stored_before :
+    (f : ℕ → ℕ) (k : ℕ) (l now : List ℕ) → length now ≡ k → ((i : ℕ) → i < k → get_or now i 0 ≡ f i) → k ≤ length l →
+    now ++ drop k l ≡ stored_to f k l
+stored_before f k l now size each room =
+    same_number_lists (now ++ drop k l) (stored_to f k l)
+    (length-append now (drop k l) ∙ rw (length-drop k l, stored_length f k l) (omega arith))
+    (λ i h. by_test (ltb i k)
+    (λ e. let below : i < k = ltb-true i k e in
+    get_or-append now (drop k l) 0 i (omega arith) ∙ each i below ∙ sym (stored_at f k l i below (omega arith)))
+    (λ e. let past : k ≤ i = ltb-false i k e in
+    let at_end : length now + (i - k) ≡ i = omega arith in
+    let in_list : k + (i - k) ≡ i = omega arith in
+    ap (λ j. get_or (now ++ drop k l) j 0) (sym at_end) ∙ get_or-append-add now (drop k l) (i - k) 0 ∙ get_or-drop k l (i - k) 0
+    ∙ ap (λ j. get_or l j 0) in_list ∙ sym (stored_else f k l i past)))
 
 pub sum_same : (f g : ℕ → ℕ) (k : ℕ) → ((i : ℕ) → i < k → f i ≡ g i) → sum_to f k ≡ sum_to g k
 unfolding sum_to

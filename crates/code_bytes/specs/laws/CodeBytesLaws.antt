@@ -1,6 +1,9 @@
 -- Codes written read back, and all else stays.
-use Rattle.std.specs.Prelude.{ℕ, zero, suc, ◌+◌, ◌≤◌, ◌<◌, List, ◌≡◌, refl, length, get_or}
-use Rattle.std.proofs.Common.{◌∙◌, arith, length-set, get_or-set_other}
+use Rattle.std.specs.Prelude.{ℕ, zero, suc, ◌+◌, ◌≤◌, ◌<◌, List, ◌≡◌, refl, length, get_or, set, take, drop}
+use Rattle.std.proofs.Math.Seq.{paste, paste-zero, paste-suc}
+use Rattle.std.proofs.lemmas.Grind.{same_number_lists}
+use Rattle.std.proofs.lemmas.List.{length-take-le, get_or-take, get_or-drop}
+use Rattle.std.proofs.Common.{sym, ap, ◌∙◌, arith, length-drop, length-set, get_or-set_other}
 use Rattle.choice.specs.laws.ChoiceLaws.{set_ind}
 use Rattle.code_bytes.specs.CodeBytes.{put_codes, codes_from}
 
@@ -55,3 +58,19 @@ pub codes_from-same :
 unfolding codes_from
 codes_from-same zero s t p q h = refl
 codes_from-same (suc k) s t p q h = rw (codes_from-same k s t p q (λ i l. h i (omega arith)), h k (omega arith))
+
+-- the codes written are those that a copy of the whole part leaves
+pub pasted : (k : ℕ) (bytes : List ℕ) (at : ℕ) (codes : List ℕ) → at + k ≤ length bytes → k ≤ length codes → paste bytes at codes k ≡ put_codes k bytes at codes
+unfolding put_codes
+pasted zero bytes at codes room size = sym (paste-zero bytes at codes)
+pasted (suc k) bytes at codes room size =
+    sym (paste-suc bytes at codes k 0 (omega arith) (omega arith))
+    ∙ ap (λ b. set b (at + k) (get_or codes k 0)) (pasted k bytes at codes (omega arith) (omega arith))
+
+-- and the codes read are that part of the buffer
+pub codes-part : (bytes : List ℕ) (at : ℕ) → at + 16 ≤ length bytes → take 16 (drop at bytes) ≡ codes_from 16 bytes at
+codes-part bytes at room =
+    let size : length (take 16 (drop at bytes)) ≡ 16 = length-take-le 16 (drop at bytes) (rw length-drop (omega arith)) in
+    same_number_lists (take 16 (drop at bytes)) (codes_from 16 bytes at) (size ∙ sym (codes_from-length 16 bytes at))
+    (λ i h. let below : i < 16 = omega arith in
+    get_or-take 16 (drop at bytes) i 0 below ∙ get_or-drop at bytes i 0 ∙ sym (codes_from-at 16 bytes at i below (omega arith)))

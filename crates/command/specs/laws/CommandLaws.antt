@@ -7,22 +7,25 @@ use Rattle.choice.specs.laws.Cases.{by_test, by_equal}
 use Rattle.command.specs.declared.Command.{Command}
 use Rattle.command.specs.declared.Command.TheVariants as Command·
 use Rattle.command.specs.declared.Target.{Target}
-use Rattle.command.specs.declared.Refusal.{Refusal}
-use Rattle.command.specs.declared.Reading.{Reading}
+use Rattle.refusals.specs.declared.Reason.{Reason}
+use Rattle.refusals.specs.declared.Reason.TheVariants as Reason·
+use Rattle.refusals.specs.Refusals.{number_of}
+use Rattle.command.specs.Readings.{Mark}
 use Rattle.command.specs.laws.TargetLaws.{past}
 use Rattle.command.specs.Commands.{found, refused, read_target, read_delivery, read_byte, read_command, refusal_of, operand_bytes, refusal_at}
 
 -- what is left to ask once there is a command byte
-after : ℕ → List ℕ → ℕ → Refusal
+after : ℕ → List ℕ → ℕ → Mark
 after byte list at =
     pick (both (leb 1 byte) (leb byte 5))
     (pick (leb (at + (1 + operand_bytes byte)) (length list)) (record { number = 0; place = at + (1 + operand_bytes byte) })
     (record { number = 7; place = at }))
     (record { number = 6; place = at })
 
-refused_of : (number place : ℕ) → refusal_of (refused number place) ≡ record { number = number; place = place }
+refused_of :
+    (reason : Reason) (place : ℕ) → refusal_of (refused reason place) ≡ record { number = number_of reason; place = place }
 unfolding refused refusal_of
-refused_of number place = refl
+refused_of reason place = refl
 
 start_of : (list : List ℕ) (at : ℕ) → refusal_of (found Command·.Start (at + 1)) ≡ record { number = 0; place = at + 1 }
 unfolding found refusal_of
@@ -66,7 +69,7 @@ of_byte byte list at h =
     by_equal byte 4 (λ e. rw e (of_target _ list at)) λ n4.
     by_equal byte 5 (λ e. rw e (of_target _ list at)) λ n5.
     rw (ne_eqb byte 1 n1, ne_eqb byte 2 n2, ne_eqb byte 3 n3, ne_eqb byte 4 n4, ne_eqb byte 5 n5, none-known byte n1 n2 n3 n4 n5)
-    (refused_of 6 at)
+    (refused_of Reason·.NoCommand at)
 
 -- number and place of the reader's answer are those said of the bytes
 pub reading_refusal : (list : List ℕ) (at : ℕ) → refusal_of (read_command list at) ≡ refusal_at list at
@@ -74,4 +77,4 @@ unfolding read_command refusal_at after
 reading_refusal list at =
     by_test (ltb at (length list))
     (λ e. rw e (of_byte (get_or list at 0) list at (ltb-true at (length list) e)))
-    (λ e. rw e (refused_of 6 at))
+    (λ e. rw e (refused_of Reason·.NoCommand at))

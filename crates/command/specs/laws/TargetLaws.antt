@@ -29,16 +29,3 @@ target_byte byte list at n1 n2 low high =
   where
     five : {b : ℕ} → 5 ≤ b → b ≤ 5 → b ≡ 5
     five low high = omega arith
-
--- no command has any other
-pub no_command :
-    (byte : ℕ) (list : List ℕ) (at : ℕ) → ((k : ℕ) → 1 ≤ k → k ≤ 5 → byte ≡ k → ⊥) → refused 6 at ≡ read_byte byte list at
-unfolding read_byte
-no_command byte list at other =
-    rw (
-      ne_eqb byte 1 (other 1 (omega arith) (omega arith)),
-      ne_eqb byte 2 (other 2 (omega arith) (omega arith)),
-      ne_eqb byte 3 (other 3 (omega arith) (omega arith)),
-      ne_eqb byte 4 (other 4 (omega arith) (omega arith)),
-      ne_eqb byte 5 (other 5 (omega arith) (omega arith)),
-    )

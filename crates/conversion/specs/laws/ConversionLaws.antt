@@ -17,7 +17,10 @@ use Rattle.header.specs.Headers.{is_second, header_of, header_weights, header_le
 use Rattle.header.specs.laws.HeaderLaws.{headed}
 use Rattle.header.specs.laws.FirstLaws.{FirstSized, first-sized}
 use Rattle.header.specs.laws.Editions.{FirstPlayed, first-played}
-use Rattle.text.specs.laws.Written.{Written, joined, written-length}
+use Rattle.text.specs.declared.Page.{Page}
+use Rattle.text.specs.Page.{Put}
+use Rattle.text.specs.laws.Written.{Written}
+use Rattle.text.specs.laws.PageLaws.{joined}
 use Rattle.spelling.specs.Ranges.{HeaderInRange}
 use Rattle.spelling.specs.WriteRead.{refuse, put_out}
 use Rattle.spelling.specs.laws.BytesBack.{length-header}
@@ -122,21 +125,19 @@ unfolding other_bytes
 forward_length list first = omega (arith, rw first at (converted_length_lem list), second-length (header_of list))
 
 -- a weight more
-pub ones-more :
-    {b m a : List ℕ} {at next then : ℕ} (k : ℕ) → Written b at (replicate k 1) m next → Written m next (1 ∷ []) a then →
-    Written b at (replicate (k + 1) 1) a then
+pub ones-more : {p q r : Page} (k : ℕ) → Put p (replicate k 1) q → Put q (1 ∷ []) r → Put p (replicate (k + 1) 1) r
 ones-more k w v = rw (← replicate-append-replicate {A = ℕ} k 1 1) (joined w v)
 
 -- there is room for the bytes after the header
 pub carried-room :
-    {b m : List ℕ} {next : ℕ} (list : List ℕ) (second : Bool) (h : Header) (first : ℕ) → second ≡ is_second list → h ≡ header_of list →
-    first ≡ header_length list → Written b 0 (other_bytes second h) m next → length (converted list) ≤ length b →
-    next + length (take (length list - first) (drop first list)) ≤ length m
+    {p q : Page} (list : List ℕ) (second : Bool) (h : Header) (first : ℕ) → second ≡ is_second list → h ≡ header_of list →
+    first ≡ header_length list → Put p (other_bytes second h) q → p.at + length (converted list) ≤ length p.buffer.now →
+    q.at + length (take (length list - first) (drop first list)) ≤ length q.buffer.now
 carried-room list second h first same-edition same-header same_first w room =
     omega (
       arith,
-      w.ends,
-      written-length w,
+      w.written.ends,
+      w.length-is,
       ap (λ s. length (other_bytes s h)) same-edition,
       ap (λ x. length (other_bytes (is_second list) x)) same-header,
       converted_length_lem list,
@@ -145,12 +146,12 @@ carried-room list second h first same-edition same-header same_first w room =
     )
 
 -- the header in the other edition, and every byte after it
-pub carried-written :
-    {b m a : List ℕ} {next end : ℕ} (list : List ℕ) (second : Bool) (h : Header) (first : ℕ) → second ≡ is_second list → h ≡ header_of list →
-    first ≡ header_length list → Written b 0 (other_bytes second h) m next → Written m next (take (length list - first) (drop first list)) a end →
-    Written b 0 (converted list) a end
+pub carried-put :
+    {p q r : Page} (list : List ℕ) (second : Bool) (h : Header) (first : ℕ) → second ≡ is_second list → h ≡ header_of list →
+    first ≡ header_length list → Put p (other_bytes second h) q → Put q (take (length list - first) (drop first list)) r →
+    Put p (converted list) r
 unfolding converted
-carried-written list second h first same-edition same-header same_first w v =
+carried-put list second h first same-edition same-header same_first w v =
     rw (← same-edition, ← same-header, ← same_first)
     (joined w (rw (part_to_end list first) at v))
 

@@ -1,11 +1,7 @@
-use Prim.Native.Nat.{◌≤◌, ◌-◌}
-use mathlib.Core.Path.{◌≡◌}
-use lib.ListN.{length}
-use Rattle.layout.specs.Numbers.{shifted, put_number}
+use Rattle.std.proofs.Common.{◌≡◌, ℕ, ◌%◌, ◌<◌, get_or}
+use Rattle.layout.specs.Numbers.{shifted}
 use Rattle.encode.proofs.put_number.Given as goal
 
-abbrev pub invariant-loop-k : goal.invariant-loop-k
-invariant-loop-k l = (l.k ≤ l.count) × (length l.bytes ≡ length l.initial.bytes) × (l.rest ≡ shifted l.k l.number) × (l.bytes ≡ put_number l.k l.initial.bytes l.at l.number)
-
-abbrev pub decreases-loop-k : goal.decreases-loop-k
-decreases-loop-k l = l.count - l.k
+abbrev pub invariant-loop-byte : goal.invariant-loop-byte
+invariant-loop-byte l =
+    record { left : l.rest ≡ shifted l.byte-index l.number; low : (i : ℕ) → i < l.byte-index → get_or l.byte-items i 0 ≡ shifted i l.number % 256 }

@@ -9,7 +9,7 @@ use Rattle.from_lines.proofs.read.Goals as goal
 
 pub returns-then-text-gt-LONGEST : goal.returns-then-text-gt-LONGEST
 unfolding from_lines refuse
-returns-then-text-gt-LONGEST c = record { value = simp (lt-ltb 262144 (length c.args.text.now) c.if-text-gt-LONGEST.true) c.refused.ensures; list_after = simp (lt-ltb 262144 (length c.args.text.now) c.if-text-gt-LONGEST.true); length_in_bounds = rw c.refused.ensures (omega arith, omega arith, λ e. omega arith) }
+returns-then-text-gt-LONGEST c = record { value = simp (lt-ltb 262144 (length c.args.text.now) c.if-text-gt-LONGEST.true, c.into.ensures); list_after = simp (lt-ltb 262144 (length c.args.text.now) c.if-text-gt-LONGEST.true); length_in_bounds = rw c.into.ensures (omega arith, omega arith, λ e. omega arith) }
 
 pub returns : goal.returns
 unfolding from_lines

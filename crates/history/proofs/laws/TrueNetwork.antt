@@ -17,7 +17,7 @@ use Rattle.site.specs.Fields.{blank_site}
 use Rattle.site.specs.Records.{Written}
 use Rattle.rules.specs.Rules.{Move, start}
 use Rattle.member.specs.declared.Order.TheVariants as Order·
-use Rattle.member.specs.declared.Heard.TheVariants as Heard·
+use Rattle.std.specs.Prelude.{Ok}
 use Rattle.member.specs.Orders.{row_in, read_order}
 use Rattle.member.specs.Steps.{Answer, refuse, take}
 use Rattle.member.specs.laws.View.{Rule, by-start, by-timeout, by-deliver, by-crash, by-recover, Seen, as_refused, as_taken, view}
@@ -75,7 +75,7 @@ module _ (z : Competition) (net : Network) (H : List Written) (true_of : TrueNet
   -- every rule is fair, where a row that is delivered is true
   fair_rule :
       (i : ℕ) (bytes : List ℕ) (v : Move) → i < z.n →
-      (read_order bytes ≡ Heard·.Found Order·.Deliver → TrueRow z.n H (row_in bytes)) →
+      (read_order bytes ≡ Ok Order·.Deliver → TrueRow z.n H (row_in bytes)) →
       Rule (member_of z i) (net.site i) bytes v → FairMove (terms_of z) i H v
   unfolding member_of
   fair_rule i bytes v less arrived (by-start zero active) =
@@ -119,7 +119,7 @@ module _ (z : Competition) (net : Network) (H : List Written) (true_of : TrueNet
       }
 
   seen_true :
-      (x : Told) (a : Answer) → (read_order x.command ≡ Heard·.Found Order·.Deliver → a.number ≡ 0 → TrueRow z.n H (row_in x.command)) →
+      (x : Told) (a : Answer) → (read_order x.command ≡ Ok Order·.Deliver → a.number ≡ 0 → TrueRow z.n H (row_in x.command)) →
       Seen (member_of z x.at) (net.site x.at) x.command a → TrueNetwork z (answered x.at a net) (H ++ a.records)
   unfolding refuse take member_of
   seen_true x a arrived (as_refused number other) = stayed x.at number

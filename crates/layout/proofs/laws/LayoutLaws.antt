@@ -57,12 +57,12 @@ put_sites-at (suc k) b w i f h small room =
 
 -- the sites read
 
-sites_from-length : (k : ℕ) (b : List ℕ) → length (sites_from k b) ≡ 16
+pub sites_from-length : (k : ℕ) (b : List ℕ) → length (sites_from k b) ≡ 16
 unfolding sites_from down_sites
 sites_from-length zero b = refl
 sites_from-length (suc k) b = simp length-set (sites_from-length k b)
 
-sites_from-at :
+pub sites_from-at :
     (k : ℕ) (b : List ℕ) (i : ℕ) (d : Site) → i < k → k ≤ 16 → get_or (sites_from k b) i d ≡ site_at b (site_place i)
 unfolding sites_from
 sites_from-at zero b i d h small = absurd (omega arith)

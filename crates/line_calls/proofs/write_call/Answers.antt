@@ -1,16 +1,9 @@
-use mathlib.Core.Path.{sym, ◌∙◌}
-use borrow.Author.Tests.{eqb-true}
+use Rattle.std.proofs.Common.{rules}
 use Rattle.spelling.specs.WriteRead.{write_lines}
-use Rattle.line_calls.specs.LineCalls.{leave_lines}
-use Rattle.line_calls.specs.laws.LineCallLaws.{lines_17, lines_left}
+use Rattle.line_calls.specs.laws.LineCallLaws.{lines_answered}
 use Rattle.line_calls.proofs.write_call.Goals as goal
 
-pub returns-then-not-is_result : goal.returns-then-not-is_result
-returns-then-not-is_result c = let e = lines_17 (write_lines c.args.list.now) c.args.buffer.now c.args.res.now (sym c.is_result.ensures ∙ c.if-not-is_result.true) in record { value = rw e; buffer_after = rw e; res_after = rw e }
-
-pub put_answer-requires : goal.put_answer-requires
-put_answer-requires c = eqb-true _ _ (sym c.is_result.ensures ∙ c.if-not-is_result.false)
-
 pub returns : goal.returns
-unfolding leave_lines
-returns c = let e = lines_left (write_lines c.args.list.now) c.args.buffer.now c.args.res.now (sym c.is_result.ensures ∙ c.if-not-is_result.false) in record { value = rw (e, c.put_answer.ensures.value, c.write_lines-spelled.ensures.value); buffer_after = rw e c.write_lines-spelled.ensures.buffer_after; res_after = rw (e, c.put_answer.ensures.res_after, c.write_lines-spelled.ensures.value) }
+returns c =
+    let (number, buffer, left) = lines_answered (write_lines c.args.list.now) c.args.buffer.now c.args.res.now _ _ _ (c.answered.ensures.0, λ same. let (answer, did, gives, leaves) = c.answered.ensures.1 same in (answer, search rules, gives, leaves)) in
+    record { value = number; buffer_after = buffer; res_after = left }

@@ -1,7 +1,11 @@
 -- Laws of these calls: what each return of the code leaves.
 use Rattle.std.specs.Prelude.{ℕ, true, false, List, ◌≡◌, eqb, length}
+use Rattle.std.proofs.Common.{ap, ◌∙◌}
+use Rattle.choice.specs.laws.Cases.{by_test}
+use Rattle.spelling.specs.Answers.{answer_of}
+use Rattle.layout.specs.Numbers.{put_number}
 use Rattle.spelling.specs.WriteRead.{Output}
-use Rattle.line_calls.specs.LineCalls.{lines_result_bytes, leave_lines, lines_call}
+use Rattle.line_calls.specs.LineCalls.{lines_result_bytes, leave_lines, lines_call, AnsweredBy}
 
 module _ (call : List ℕ → Output) (buffer result : List ℕ) where
   pub lines_17 :
@@ -14,3 +18,16 @@ module _ (call : List ℕ → Output) (buffer result : List ℕ) where
       eqb (length result) lines_result_bytes ≡ true → lines_call call buffer result ≡ leave_lines (call buffer) result
   unfolding lines_call
   lines_left same = rw same
+
+  -- the work does what the call says: so the whole call does
+  pub lines_answered :
+      (number : ℕ) (after left : List ℕ) →
+      AnsweredBy (λ answer then. (answer_of answer ≡ (call buffer).answer) × (then ≡ (call buffer).buffer)) buffer result number after left →
+      (number ≡ (lines_call call buffer result).number) × (after ≡ (lines_call call buffer result).buffer) × (left ≡ (lines_call call buffer result).result)
+  unfolding leave_lines
+  lines_answered number after left by =
+      by_test (eqb (length result) lines_result_bytes)
+      (λ same. let (answer, did, gives, leaves) = by.1 same in
+      let (told, done) = did in
+      rw (lines_left same) (gives ∙ ap (λ a. a.number) told, done, leaves ∙ ap (λ a. put_number 8 (put_number 8 result 0 a.length) 8 a.place) told))
+      (λ other. rw (lines_17 other) (by.0 other))

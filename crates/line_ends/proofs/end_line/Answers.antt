@@ -1,5 +1,5 @@
-use Rattle.spelling.specs.LineReading.{end_line}
-use Rattle.command.specs.Commands.{found}
+use Rattle.spelling.specs.LineReading.{end_line, bad_line}
+use Rattle.command.specs.Commands.{found, refused}
 use Rattle.text.specs.Text.{text}
 use mathlib.Core.Path.{sym, ◌∙◌}
 use Rattle.line_ends.proofs.end_line.Goals as goal
@@ -9,5 +9,5 @@ unfolding text end_line found
 returns-then-word_at c = simp (sym c.word_at.ensures ∙ c.if-word_at.true)
 
 pub returns : goal.returns
-unfolding text end_line
-returns c = simp (sym c.word_at.ensures ∙ c.if-word_at.false) c.bad_line.ensures
+unfolding text end_line bad_line refused
+returns c = simp (sym c.word_at.ensures ∙ c.if-word_at.false, c.at.ensures)

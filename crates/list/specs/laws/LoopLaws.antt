@@ -3,21 +3,19 @@ use Rattle.std.specs.Prelude.{ℕ, ◌+◌, ◌<◌, List, ◌≡◌, length}
 use Rattle.std.proofs.Math.Path.{ap}
 use Rattle.std.proofs.Common.{sym, ◌∙◌}
 use Rattle.site.specs.declared.Site.{Site}
-use Rattle.command.specs.declared.Reading.{Reading}
+use Rattle.command.specs.Readings.{Reading}
 use Rattle.command.specs.Commands.{read_command}
 use Rattle.world.specs.declared.World.{World}
 use Rattle.world.specs.Worlds.{site_of}
-use Rattle.play.specs.declared.Change.{Change}
-use Rattle.play.specs.declared.Played.{Played}
-use Rattle.play.specs.Calls.{played_of}
+use Rattle.play.specs.Calls.{Told, played_of}
 use Rattle.play.specs.Commands.{perform_read, play_command}
-use Rattle.play.specs.laws.Changes.{Ready, Acts, actor, changed, head_of, world_of}
+use Rattle.play.specs.laws.Changes.{Ready, Acts, SiteChange, actor, changed, head_of, world_of}
 use Rattle.play.specs.laws.CallLaws.{ready, acts_played}
 use Rattle.list.specs.Play.{Play}
 use Rattle.list.specs.laws.CommandLaws.{place_after}
 use Rattle.list.specs.laws.Loop.{Underway, Over, loop_goes_on, loop_stops}
 
-module _ (p : Play) (w : World) (store list : List ℕ) (at events : ℕ) (r : Played) (after : List ℕ)
+module _ (p : Play) (w : World) (store list : List ℕ) (at events : ℕ) (r : Told) (after : List ℕ)
     (u : Underway p w store list at events) (left : at < length list) (e : r ≡ played_of (play_command w store list at))
     (s : after ≡ (play_command w store list at).store) where
   number_is : r.number ≡ (play_command w store list at).number
@@ -41,7 +39,7 @@ pub may_act :
     {p : Play} (w : World) {store list : List ℕ} {at events : ℕ} → Underway p w store list at events → Ready (head_of w) store
 may_act w {store} u = ready w store u.room u.valid
 
-module _ {p : Play} (w : World) {store list : List ℕ} {at events : ℕ} {reading : Reading} {own : ℕ} {s : Site} (c : Change)
+module _ {p : Play} (w : World) {store list : List ℕ} {at events : ℕ} {reading : Reading} {own : ℕ} {s : Site} (c : SiteChange)
     (after : List ℕ) (u : Underway p w store list at events) (left : at < length list) (e : reading ≡ read_command list at)
     (f : own ≡ actor reading w.n) (g : s ≡ site_of w own)
     (acts : Acts (head_of w) (actor reading w.n) s c after (λ x. perform_read reading x store at)) where

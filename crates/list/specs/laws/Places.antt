@@ -9,10 +9,14 @@ use Rattle.merging.proofs.NewsLaws.{merging-news, risen-others}
 use Rattle.row.specs.declared.Row.{Row}
 use Rattle.row.specs.Rows.{get_row}
 use Rattle.rules.specs.Rules.{Move, start, timeout, bringing, after_hearing, deliver, crash, recover}
+use Rattle.refusals.specs.declared.Reason.{Reason}
+use Rattle.refusals.specs.declared.Reason.TheVariants as Reason·
+use Rattle.refusals.specs.Refusals.{number_of}
+use Rattle.refusals.specs.laws.RefusalLaws.{number-test}
 use Rattle.command.specs.declared.Command.{Command}
 use Rattle.command.specs.declared.Command.TheVariants as Command·
-use Rattle.command.specs.declared.Reading.{Reading}
-use Rattle.command.specs.declared.Reading.TheVariants as Reading·
+use Rattle.command.specs.Readings.{Reading}
+use Rattle.std.specs.Prelude.{Ok, Err}
 use Rattle.command.specs.Commands.{found, refused, target, delivery, read_target, read_delivery, read_byte, read_command}
 use Rattle.world.specs.declared.World.{World}
 use Rattle.world.specs.Sizes.{max_rows, max_news}
@@ -182,8 +186,8 @@ module _ (w : World) (store list : List ℕ) (at : ℕ) where
 -- what is read at a place: a command that takes its bytes, or a refusal to 15 with its own place
 module _ (list : List ℕ) (at : ℕ) where
   Read : Reading → Type 0
-  Read (Reading·.Found p) = Spans p.command list at p.next
-  Read (Reading·.Refused r) = (r.place ≡ at) × (eqb r.number 0 ≡ false) × (leb r.number 15 ≡ true)
+  Read (Ok p) = Spans p.command list at p.next
+  Read (Err r) = (r.place ≡ at) × (eqb (number_of r.reason) 0 ≡ false) × (leb (number_of r.reason) 15 ≡ true)
 
   read-pick : (t : Bool) (a b : Reading) → Read a → Read b → Read (pick t a b)
   read-pick true a b p q = p
@@ -193,16 +197,16 @@ module _ (list : List ℕ) (at : ℕ) where
   unfolding Read found
   read_found c next h = h
 
-  read-refused : (k : ℕ) → eqb k 0 ≡ false → leb k 15 ≡ true → Read (refused k at)
+  read-refused : (reason : Reason) → leb (number_of reason) 15 ≡ true → Read (refused reason at)
   unfolding Read refused
-  read-refused k e l = (refl, e, l)
+  read-refused reason l = (refl, number-test reason, l)
 
   -- a command whose bytes are all there, or 7
-  read_whole : (c : Command) (k : ℕ) → bytes_of c ≡ k → Read (pick (leb (at + k) (length list)) (found c (at + k)) (refused 7 at))
+  read_whole : (c : Command) (k : ℕ) → bytes_of c ≡ k → Read (pick (leb (at + k) (length list)) (found c (at + k)) (refused Reason·.OperandsCut at))
   read_whole c k e =
-      pick_ind Read (leb (at + k) (length list)) (found c (at + k)) (refused 7 at)
+      pick_ind Read (leb (at + k) (length list)) (found c (at + k)) (refused Reason·.OperandsCut at)
       (λ l. read_found c (at + k) (record { bytes = omega (arith, e); within = leb-true (at + k) (length list) l }))
-      (λ _. read-refused 7 refl refl)
+      (λ _. read-refused Reason·.OperandsCut refl)
 
   read-timeout : Read (read_target Command·.Timeout list at)
   unfolding read_target bytes_of
@@ -223,19 +227,20 @@ module _ (list : List ℕ) (at : ℕ) where
   read_byte_lem : (byte : ℕ) → Spans Command·.Start list at (at + 1) → Read (read_byte byte list at)
   unfolding read_byte
   read_byte_lem byte h =
-      search (read-pick, read_found, read-timeout, read-crash, read-recover, read_delivery_lem, read-refused) depth 8
+      let none : Read (refused Reason·.NoCommand at) = read-refused Reason·.NoCommand refl in
+      search (read-pick, read_found, read-timeout, read-crash, read-recover, read_delivery_lem, none) depth 8
 
   read_command_lem : Read (read_command list at)
   unfolding read_command bytes_of
   read_command_lem =
-      pick_ind Read (ltb at (length list)) (read_byte (get_or list at 0) list at) (refused 6 at)
+      pick_ind Read (ltb at (length list)) (read_byte (get_or list at 0) list at) (refused Reason·.NoCommand at)
       (λ l. read_byte_lem (get_or list at 0) (record { bytes = omega arith; within = omega (arith, ltb-true at (length list) l) }))
-      (λ _. read-refused 6 refl refl)
+      (λ _. read-refused Reason·.NoCommand refl)
 
 pub placed : (w : World) (store list : List ℕ) (at : ℕ) → Placed w list at (play_command w store list at)
 unfolding play_command perform_read Read
 placed w store list at = by-reading (read_command list at) (read_command_lem list at)
   where
     by-reading : (r : Reading) → Read list at r → Placed w list at (perform_read r w store at)
-    by-reading (Reading·.Found p) h = placed-perform w store list at p.command p.next h
-    by-reading (Reading·.Refused r) (e, k, l) = rw e (placed-refuse w store list at r.number k l)
+    by-reading (Ok p) h = placed-perform w store list at p.command p.next h
+    by-reading (Err r) (e, k, l) = rw e (placed-refuse w store list at (number_of r.reason) k l)

@@ -61,7 +61,8 @@ use Rattle.rules.specs.Rules.{
 }
 use Rattle.member.specs.declared.Member.{Member}
 use Rattle.member.specs.declared.Order.TheVariants as Order·
-use Rattle.member.specs.declared.Heard.TheVariants as Heard·
+use Rattle.std.specs.Prelude.{Ok}
+use Rattle.refusals.specs.declared.Reason.TheVariants as Reason·
 use Rattle.member.specs.Orders.{refused_with, row_in, read_row, order_of, read_order}
 use Rattle.member.specs.Steps.{refuse, take}
 use Rattle.member.specs.Claims.{Long, Arrives, RowsArrive}
@@ -184,11 +185,11 @@ sends-deliver own n willing row s few from =
     record { sender = q.sender; destinations = q.destinations; codes = q.codes }
 
 -- twenty bytes after a 2, and what follows them, are a delivery
-pub bytes-deliver : (l : List ℕ) → 20 ≤ length l → read_order (2 ∷ l) ≡ Heard·.Found Order·.Deliver
+pub bytes-deliver : (l : List ℕ) → 20 ≤ length l → read_order (2 ∷ l) ≡ Ok Order·.Deliver
 unfolding read_order order_of read_row
 bytes-deliver l e =
-    pick-on (ltb 0 (length (2 ∷ l))) (order_of 2 (2 ∷ l)) (refused_with 6) (lt-ltb 0 (length (2 ∷ l)) (omega arith))
-    ∙ pick_off (ltb (length (2 ∷ l)) 21) (refused_with 7) (Heard·.Found Order·.Deliver) (le-ltb (length (2 ∷ l)) 21 (omega arith))
+    pick-on (ltb 0 (length (2 ∷ l))) (order_of 2 (2 ∷ l)) (refused_with Reason·.NoCommand) (lt-ltb 0 (length (2 ∷ l)) (omega arith))
+    ∙ pick_off (ltb (length (2 ∷ l)) 21) (refused_with Reason·.OperandsCut) (Ok Order·.Deliver) (le-ltb (length (2 ∷ l)) 21 (omega arith))
 
 -- a row whose numbers fit their bytes, written and read
 row_back :

@@ -14,8 +14,8 @@ use Rattle.world.specs.Valid.{valid_site}
 use Rattle.world.specs.laws.SizesLaws.{sized}
 use Rattle.member.specs.declared.Member.{Member}
 use Rattle.member.specs.declared.Order.TheVariants as Order·
-use Rattle.member.specs.declared.Heard.{Heard}
-use Rattle.member.specs.declared.Heard.TheVariants as Heard·
+use Rattle.member.specs.Hearings.{Heard}
+use Rattle.std.specs.Prelude.{Ok}
 use Rattle.member.specs.Steps.{Answer, refuse, take, crash_step, step_by, step_heard, valid_member, site_step}
 use Rattle.member.specs.Claims.{Long, Stays, RefusedStays, Ready, AcceptedStaysValid, site_of_log, LogIsEnough}
 use Rattle.member.specs.laws.Steady.{Steady, Moved, keeps_start, keeps_timeout, keeps_deliver, keeps_crash, keeps_recover}
@@ -53,7 +53,7 @@ unfolding Leaves site_step step_heard step_by crash_step
 log-is-enough m s bytes e =
     let P : Answer → Type 0 = Leaves (site_of_log m.own s.prepared s.group s.joined s.outcome) in
     subst (λ h. P (pick (valid_member m s) (step_heard h bytes m s) (refuse 17 s))) (sym e)
-    (pick_ind P (valid_member m s) (step_heard (Heard·.Found Order·.Crash) bytes m s) (refuse 17 s)
+    (pick_ind P (valid_member m s) (step_heard (Ok Order·.Crash) bytes m s) (refuse 17 s)
     (λ _. pick_ind P (ltb m.own m.n) (crash_step m s) (refuse 8 s)
     (λ _. pick_ind P s.up (take (crash m.own s)) (refuse 12 s)
     (λ _. crash-leaves m.own s) (λ _. refusal_leaves 12 _ s (λ z. omega arith)))

@@ -12,8 +12,10 @@ use Rattle.rules.specs.Rules.{Move, start, timeout, deliver, crash, recover}
 use Rattle.member.specs.declared.Member.{Member}
 use Rattle.member.specs.declared.Order.{Order}
 use Rattle.member.specs.declared.Order.TheVariants as Order·
-use Rattle.member.specs.declared.Heard.{Heard}
-use Rattle.member.specs.declared.Heard.TheVariants as Heard·
+use Rattle.refusals.specs.Refusals.{number_of}
+use Rattle.refusals.specs.laws.RefusalLaws.{number-some}
+use Rattle.member.specs.Hearings.{Heard}
+use Rattle.std.specs.Prelude.{Ok, Err}
 use Rattle.member.specs.Orders.{refused_with, row_in, read_row, order_of, read_order}
 use Rattle.member.specs.Steps.{
   Answer,
@@ -35,7 +37,7 @@ pub data Rule (m : Member) (s : Site) (bytes : List ℕ) : Move → Type 0 where
   by-start : m.own ≡ 0 → is_active (state_of s) ≡ true → Rule m s bytes (start m.n m.willing s)
   by-timeout : Rule m s bytes (timeout m.own m.n m.weights m.commit m.abort s)
   by-deliver :
-      read_order bytes ≡ Heard·.Found Order·.Deliver → row_known m.n (row_in bytes) ≡ true →
+      read_order bytes ≡ Ok Order·.Deliver → row_known m.n (row_in bytes) ≡ true →
       Rule m s bytes (deliver m.own m.n m.willing (row_in bytes) s)
   by-crash : Rule m s bytes (crash m.own s)
   by-recover : Rule m s bytes (recover m.own s)
@@ -43,40 +45,6 @@ pub data Rule (m : Member) (s : Site) (bytes : List ℕ) : Move → Type 0 where
 pub data Seen (m : Member) (s : Site) (bytes : List ℕ) : Answer → Type 0 where
   as_refused : (number : ℕ) → (number ≡ 0 → ⊥) → Seen m s bytes (refuse number s)
   as_taken : (v : Move) → valid_member m s ≡ true → m.own < m.n → Rule m s bytes v → Seen m s bytes (take v)
-
--- a refusal has a number
-Numbered : Heard → Type 0
-Numbered (Heard·.Refused r) = r.number ≡ 0 → ⊥
-Numbered (Heard·.Found o) = Unit
-
-refused_numbered : (number : ℕ) → (number ≡ 0 → ⊥) → Numbered (refused_with number)
-unfolding Numbered refused_with
-refused_numbered number h = h
-
-found_numbered : (o : Order) → Numbered (Heard·.Found o)
-unfolding Numbered
-found_numbered o = tt
-
-row_numbered : (bytes : List ℕ) → Numbered (read_row bytes)
-unfolding read_row
-row_numbered bytes =
-    pick_ind Numbered (ltb (length bytes) 21) (refused_with 7) (Heard·.Found Order·.Deliver)
-    (λ _. refused_numbered 7 (omega arith)) (λ _. found_numbered _)
-
-order_numbered : (byte : ℕ) (bytes : List ℕ) → Numbered (order_of byte bytes)
-unfolding order_of
-order_numbered byte bytes =
-    pick_ind Numbered (eqb byte 1) _ _ (λ _. found_numbered _) λ _.
-    pick_ind Numbered (eqb byte 2) _ _ (λ _. row_numbered bytes) λ _.
-    pick_ind Numbered (eqb byte 3) _ _ (λ _. found_numbered _) λ _.
-    pick_ind Numbered (eqb byte 4) _ _ (λ _. found_numbered _) λ _.
-    pick_ind Numbered (eqb byte 5) _ _ (λ _. found_numbered _) (λ _. refused_numbered 6 (omega arith))
-
-heard_numbered : (bytes : List ℕ) → Numbered (read_order bytes)
-unfolding read_order
-heard_numbered bytes =
-    pick_ind Numbered (ltb 0 (length bytes)) (order_of (get_or bytes 0 0) bytes) (refused_with 6)
-    (λ _. order_numbered (get_or bytes 0 0) bytes) (λ _. refused_numbered 6 (omega arith))
 
 module _ (m : Member) (s : Site) (bytes : List ℕ) (valid : valid_member m s ≡ true) where
   seen_start : m.own < m.n → Seen m s bytes (start_step m s)
@@ -110,7 +78,7 @@ module _ (m : Member) (s : Site) (bytes : List ℕ) (valid : valid_member m s �
       pick_ind (Seen m s bytes) s.up (refuse 13 s) (take (recover m.own s))
       (λ _. as_refused 13 (omega arith)) (λ _. as_taken (recover m.own s) valid below by-recover)
 
-  seen-deliver : read_order bytes ≡ Heard·.Found Order·.Deliver → m.own < m.n → Seen m s bytes (deliver_step (row_in bytes) m s)
+  seen-deliver : read_order bytes ≡ Ok Order·.Deliver → m.own < m.n → Seen m s bytes (deliver_step (row_in bytes) m s)
   unfolding deliver_step
   seen-deliver e below =
       let row : Row = row_in bytes in
@@ -123,7 +91,7 @@ module _ (m : Member) (s : Site) (bytes : List ℕ) (valid : valid_member m s �
       (λ _. as_refused 11 (omega arith)))
       (λ _. as_refused 10 (omega arith))
 
-  seen_by : (o : Order) → read_order bytes ≡ Heard·.Found o → m.own < m.n → Seen m s bytes (step_by o bytes m s)
+  seen_by : (o : Order) → read_order bytes ≡ Ok o → m.own < m.n → Seen m s bytes (step_by o bytes m s)
   unfolding step_by
   seen_by Order·.Start e below = seen_start below
   seen_by Order·.Deliver e below = seen-deliver e below
@@ -131,10 +99,10 @@ module _ (m : Member) (s : Site) (bytes : List ℕ) (valid : valid_member m s �
   seen_by Order·.Crash e below = seen-crash below
   seen_by Order·.Recover e below = seen-recover below
 
-  seen-heard : (h : Heard) → read_order bytes ≡ h → Numbered h → Seen m s bytes (step_heard h bytes m s)
-  unfolding step_heard Numbered
-  seen-heard (Heard·.Refused r) e numbered = as_refused r.number numbered
-  seen-heard (Heard·.Found o) e numbered =
+  seen-heard : (h : Heard) → read_order bytes ≡ h → Seen m s bytes (step_heard h bytes m s)
+  unfolding step_heard
+  seen-heard (Err reason) e = as_refused (number_of reason) (number-some reason)
+  seen-heard (Ok o) e =
       pick_ind (Seen m s bytes) (ltb m.own m.n) (step_by o bytes m s) (refuse 8 s)
       (λ l. seen_by o e (ltb-true m.own m.n l)) (λ _. as_refused 8 (omega arith))
 
@@ -143,4 +111,4 @@ pub view : (m : Member) (s : Site) (bytes : List ℕ) → Seen m s bytes (site_s
 unfolding site_step
 view m s bytes =
     pick_ind (Seen m s bytes) (valid_member m s) (step_heard (read_order bytes) bytes m s) (refuse 17 s)
-    (λ valid. seen-heard m s bytes valid (read_order bytes) refl (heard_numbered bytes)) (λ _. as_refused 17 (omega arith))
+    (λ valid. seen-heard m s bytes valid (read_order bytes) refl) (λ _. as_refused 17 (omega arith))

@@ -7,8 +7,9 @@ use Rattle.choice.specs.laws.ChoiceLaws.{pick_ind}
 use Rattle.command.specs.laws.CommandLaws.{none-known}
 use Rattle.member.specs.declared.Order.{Order}
 use Rattle.member.specs.declared.Order.TheVariants as Order·
-use Rattle.member.specs.declared.Heard.{Heard}
-use Rattle.member.specs.declared.Heard.TheVariants as Heard·
+use Rattle.member.specs.Hearings.{Heard}
+use Rattle.std.specs.Prelude.{Ok, Err}
+use Rattle.refusals.specs.declared.Reason.TheVariants as Reason·
 use Rattle.member.specs.Orders.{refused_with, read_row, order_of, read_order, heard_number, order_number}
 
 -- no byte at all is read as a byte 0 is
@@ -43,17 +44,17 @@ heard_number_lem bytes =
 
 -- a delivery has its row's twenty bytes
 unfoldable Roomy : List ℕ → Heard → Type 0
-Roomy bytes (Heard·.Refused r) = Unit
-Roomy bytes (Heard·.Found Order·.Start) = Unit
-Roomy bytes (Heard·.Found Order·.Deliver) = 21 ≤ length bytes
-Roomy bytes (Heard·.Found Order·.Timeout) = Unit
-Roomy bytes (Heard·.Found Order·.Crash) = Unit
-Roomy bytes (Heard·.Found Order·.Recover) = Unit
+Roomy bytes (Err r) = Unit
+Roomy bytes (Ok Order·.Start) = Unit
+Roomy bytes (Ok Order·.Deliver) = 21 ≤ length bytes
+Roomy bytes (Ok Order·.Timeout) = Unit
+Roomy bytes (Ok Order·.Crash) = Unit
+Roomy bytes (Ok Order·.Recover) = Unit
 
 row_roomy : (bytes : List ℕ) → Roomy bytes (read_row bytes)
 unfolding Roomy read_row refused_with
 row_roomy bytes =
-    pick_ind (Roomy bytes) (ltb (length bytes) 21) (refused_with 7) (Heard·.Found Order·.Deliver)
+    pick_ind (Roomy bytes) (ltb (length bytes) 21) (refused_with Reason·.OperandsCut) (Ok Order·.Deliver)
     (λ _. tt) (λ e. ltb-false (length bytes) 21 e)
 
 order_roomy : (byte : ℕ) (bytes : List ℕ) → Roomy bytes (order_of byte bytes)
@@ -65,9 +66,9 @@ order_roomy byte bytes =
     pick_ind (Roomy bytes) (eqb byte 4) _ _ (λ _. tt) λ _.
     pick_ind (Roomy bytes) (eqb byte 5) _ _ (λ _. tt) (λ _. tt)
 
-pub delivery-room : (bytes : List ℕ) → read_order bytes ≡ Heard·.Found Order·.Deliver → 21 ≤ length bytes
+pub delivery-room : (bytes : List ℕ) → read_order bytes ≡ Ok Order·.Deliver → 21 ≤ length bytes
 unfolding Roomy
 delivery-room bytes e =
-    let room : Roomy bytes (Heard·.Found Order·.Deliver) =
+    let room : Roomy bytes (Ok Order·.Deliver) =
     subst (Roomy bytes) e (subst (Roomy bytes) (sym (first_byte bytes)) (order_roomy (get_or bytes 0 0) bytes)) in
     room

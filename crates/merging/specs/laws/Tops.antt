@@ -39,7 +39,7 @@ outcome-above : (said : ℕ) → said < 256 → ltb 3 (level said) ≡ ltb 255 s
 outcome-above said byte = le-ltb 3 (level said) (level-most said) ∙ sym (le-ltb 255 said (omega arith))
 
 -- AN ENTRY RISES exactly if the byte said is above the top of the code held
-rises-above : (held said : ℕ) → said < 256 → rises held said ≡ ltb (top held) said
+pub rises-above : (held said : ℕ) → said < 256 → rises held said ≡ ltb (top held) said
 unfolding rises level top
 rises-above held said byte =
     by_test (ltb held 2)

@@ -1,39 +1,42 @@
 use native.Mathlib.Omega.{arith}
-use Prim.Native.Nat.{◌<◌}
-use lib.ListN.{length}
-use Rattle.world.specs.Worlds.{with_site, with_rows, with_news}
-use Rattle.world.specs.laws.PartLaws.{site_of-within}
+use Rattle.std.proofs.Common.{sym, ◌∙◌}
+use Rattle.std.proofs.lemmas.Result.{err_from_is_err_and}
 use Rattle.play.specs.laws.Changes.{head_of, world_of, changed}
-use Rattle.play.specs.laws.CallLaws.{acts_played}
+use Rattle.play.specs.laws.CallLaws.{acts_played, refused_told}
 use Rattle.perform.proofs.play_command.Goals as goal
 
 pub actor-own-requires : goal.actor-own-requires
 unfolding head_of
 actor-own-requires c = omega (arith, c.requires.low)
 
-pub offset_bounds-next-own : goal.offset_bounds-next-own
+pub site-requires : goal.site-requires
 unfolding head_of
-offset_bounds-next-own c = omega (arith, c.requires.high)
+site-requires c = omega (arith, c.actor-own.ensures.1, c.requires.high)
 
-pub bounds-next-own : goal.bounds-next-own
+pub act-requires : goal.act-requires
+act-requires c = rw c.head_of.ensures c.requires
+
+pub returns-in_err-change : goal.returns-in_err-change
+unfolding head_of world_of
+returns-in_err-change c =
+    let w = c.args.world in
+    let p = err_from_is_err_and c.from_residual.result c.from_residual.ensures.1 in
+    let r =
+    acts_played w.sites (head_of w) c.args.store.now c.args.list.now c.args.at c.read_command-reading.result c.actor-own.result
+    c.site.result _ c.act.new.store c.read_command-reading.ensures.0 c.actor-own.ensures.0 c.site.ensures
+    (rw c.head_of.ensures at c.in_err-change.ensures) in
+    rw (p.1, p.2) (record { played = sym (refused_told w c.actor-own.result _ _ c.site.result c.site.ensures) ∙ r.0; stored = r.1 })
+
+pub put-requires : goal.put-requires
 unfolding head_of
-bounds-next-own c = omega (arith, c.requires.high)
-
-pub act-change-requires : goal.act-change-requires
-act-change-requires c = rw c.head_of.ensures c.requires
-
-pub offset_bounds-next-own-2 : goal.offset_bounds-next-own-2
-unfolding head_of
-offset_bounds-next-own-2 c = omega (arith, c.requires.high)
-
-pub bounds-next-own-2 : goal.bounds-next-own-2
-unfolding head_of
-bounds-next-own-2 c = omega (arith, c.requires.high)
+put-requires c = omega (arith, c.actor-own.ensures.1, c.requires.high)
 
 pub returns : goal.returns
-unfolding head_of world_of changed with_site with_rows with_news
-returns c = let w = c.args.world in
-    let own = c.actor-own.result in
-    let room : own < length w.sites = omega (arith, c.requires.high, c.well_formed.0.1.1.0.1.0.1) in
-    let r = acts_played w.sites (head_of w) c.args.store.now c.args.list.now c.args.at c.read_command-reading.result own _ c.act-change.result c.act-change.new.store c.read_command-reading.ensures.0 c.actor-own.ensures.0 (site_of-within w own _ room) (rw c.head_of.ensures at c.act-change.ensures) in
-    record { played = r.0; stored = r.1 }
+unfolding head_of world_of changed
+returns c =
+    let w = c.args.world in
+    let r =
+    acts_played w.sites (head_of w) c.args.store.now c.args.list.now c.args.at c.read_command-reading.result c.actor-own.result
+    c.site.result _ c.act.new.store c.read_command-reading.ensures.0 c.actor-own.ensures.0 c.site.ensures
+    (rw c.head_of.ensures at c.in_ok-change.ensures) in
+    rw c.put.ensures (record { played = r.0; stored = r.1 })

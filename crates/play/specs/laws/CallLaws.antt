@@ -7,14 +7,15 @@ use Rattle.choice.specs.laws.Cases.{by_test}
 use Rattle.row.specs.Rows.{put_row}
 use Rattle.site.specs.declared.Site.{Site}
 use Rattle.site.specs.Records.{Written}
-use Rattle.rules.specs.declared.Step.{Step}
+use Rattle.rules.specs.Rules.{Stepped}
 use Rattle.site.specs.Fields.{blank_site}
 use Rattle.command.specs.declared.Command.{Command}
 use Rattle.command.specs.declared.Command.TheVariants as Command·
 use Rattle.command.specs.declared.Parsed.{Parsed}
-use Rattle.command.specs.declared.Refusal.{Refusal}
-use Rattle.command.specs.declared.Reading.{Reading}
-use Rattle.command.specs.declared.Reading.TheVariants as Reading·
+use Rattle.refusals.specs.Refusals.{number_of}
+use Rattle.refusals.specs.declared.Refusal.{Refusal}
+use Rattle.command.specs.Readings.{Reading}
+use Rattle.std.specs.Prelude.{Ok, Err}
 use Rattle.command.specs.Commands.{read_command}
 use Rattle.world.specs.declared.World.{World}
 use Rattle.world.specs.Sizes.{max_news, store_bytes}
@@ -22,9 +23,8 @@ use Rattle.world.specs.Valid.{valid_world}
 use Rattle.world.specs.Worlds.{site_of, with_site, with_rows, with_news}
 use Rattle.world.specs.laws.WorldLaws.{valid_parts, valid-sized}
 use Rattle.play.specs.declared.Head.{Head}
-use Rattle.play.specs.declared.Change.{Change}
 use Rattle.play.specs.Calls.{refuse, put_back, enter_silent, enter_row, within_news, enter, played_of}
-use Rattle.play.specs.laws.Changes.{Ready, Acts, head_of, world_of, changed, refused_change, entered_change, named_site, actor}
+use Rattle.play.specs.laws.Changes.{Ready, Acts, head_of, world_of, changed, SiteChange, refused_change, entered_change, named_site, actor}
 use Rattle.play.specs.Commands.{timeout_call, crash_call, recover_call, deliver_call, perform, perform_read, play_command, one_command}
 
 -- a world that passes 17 and a store with room need no further check
@@ -50,7 +50,7 @@ one-is_play w store list at room valid = rw (le-ltb (length store) store_bytes r
 pub refused_acts :
     (number : ℕ) (h : Head) (i : ℕ) (s : Site) (store : List ℕ) (at : ℕ) →
     Acts h i s (refused_change number h at s) store (λ w. refuse number w store at)
-unfolding Acts refused_change refuse played_of changed with_news with_rows with_site site_of world_of
+unfolding Acts refuse played_of changed with_news with_rows with_site site_of world_of
 refused_acts number h i s store at sites e = (
   ap (λ l. record { number = number; world = world_of l h; place = at })
       (ap (λ x. set sites i x) (sym e) ∙ set-get_or sites i (blank_site false)),
@@ -65,19 +65,19 @@ fits-by-room before news h =
     (λ e. e ∙ sym (lt-leb (before + news) max_news (omega (arith, leb-false news (max_news - before) e))))
 
 -- a rule's step put into world and store: each way out of `enter`
-module _ (h : Head) (own : ℕ) (s : Site) (step : Step) (records : List Written) (store : List ℕ) (at next : ℕ) where
-  abbrev Enters : Change → List ℕ → Type 0
+module _ (h : Head) (own : ℕ) (s : Site) (step : Stepped) (records : List Written) (store : List ℕ) (at next : ℕ) where
+  abbrev Enters : SiteChange → List ℕ → Type 0
   Enters c after = Acts h own s c after (λ w. enter w store at next own (record { step = step; records = records }))
 
   pub acts_silent :
       step.row.kind ≡ 0 → h.news + step.news ≤ max_news → Enters (entered_change step.site h.rows h.news step.news next) store
-  unfolding Acts changed world_of enter within_news enter_silent put_back played_of with_site with_rows with_news entered_change
+  unfolding Acts changed world_of enter within_news enter_silent put_back played_of with_site with_rows with_news
   acts_silent none few sites e = (simp (eq-eqb _ _ none, le-leb _ _ few), simp (eq-eqb _ _ none, le-leb _ _ few))
 
   pub acts_row :
       (step.row.kind ≡ 0 → ⊥) → h.rows < 1024 → h.news + step.news ≤ max_news →
       Enters (entered_change step.site (h.rows + 1) h.news step.news next) (put_row store h.rows step.row)
-  unfolding Acts changed world_of enter within_news enter_row put_back played_of with_site with_rows with_news entered_change
+  unfolding Acts changed world_of enter within_news enter_row put_back played_of with_site with_rows with_news
   acts_row some room few sites e = (
     simp (ne_eqb _ _ some, lt-ltb _ _ room, le-leb _ _ few),
     simp (ne_eqb _ _ some, lt-ltb _ _ room, le-leb _ _ few),
@@ -111,42 +111,51 @@ unnamed (Command·.Crash t) w store at next some past = simp (le-ltb _ _ past)
 unnamed (Command·.Recover t) w store at next some past = simp (le-ltb _ _ past)
 
 unnamed_acts :
-    (command : Command) (h : Head) (s : Site) (store : List ℕ) (at next : ℕ) → 0 < h.n → h.n ≤ named_site command →
+    (command : Command) (h : Head) (s : Site) (store : List ℕ) (at next : ℕ) → 0 < h.sizes.n → h.sizes.n ≤ named_site command →
     Acts h 0 s (refused_change 8 h at s) store (λ w. perform command w store at next)
 unfolding Acts world_of
 unnamed_acts command h s store at next some past sites e =
     rw (unnamed command (world_of sites h) store at next some past) (refused_acts 8 h 0 s store at sites e)
 
-module _ (reading : Reading) (h : Head) (s : Site) (c : Change) (store : List ℕ) (at : ℕ) where
+module _ (reading : Reading) (h : Head) (s : Site) (c : SiteChange) (store : List ℕ) (at : ℕ) where
   -- 6 or 7
   pub acts_refused :
-      (r : Refusal) → reading ≡ Reading·.Refused r → c ≡ refused_change r.number h r.place s →
-      Acts h (actor reading h.n) s c store (λ w. perform_read reading w store at)
+      (r : Refusal) → reading ≡ Err r → c ≡ refused_change (number_of r.reason) h r.place s →
+      Acts h (actor reading h.sizes.n) s c store (λ w. perform_read reading w store at)
   unfolding perform_read actor
-  acts_refused r e f = rw (e, f) (refused_acts r.number h 0 s store r.place)
+  acts_refused r e f = rw (e, f) (refused_acts (number_of r.reason) h 0 s store r.place)
 
   -- a command that names a site below n
   pub acts_named :
-      (p : Parsed) (after : List ℕ) → reading ≡ Reading·.Found p → named_site p.command < h.n →
+      (p : Parsed) (after : List ℕ) → reading ≡ Ok p → named_site p.command < h.sizes.n →
       Acts h (named_site p.command) s c after (λ w. perform p.command w store at p.next) →
-      Acts h (actor reading h.n) s c after (λ w. perform_read reading w store at)
+      Acts h (actor reading h.sizes.n) s c after (λ w. perform_read reading w store at)
   unfolding perform_read actor
   acts_named p after e below acts = rw (e, lt-ltb _ _ below) acts
 
   -- one that names none: 8
   pub acts_unnamed :
-      (p : Parsed) → reading ≡ Reading·.Found p → 0 < h.n → h.n ≤ named_site p.command → c ≡ refused_change 8 h at s →
-      Acts h (actor reading h.n) s c store (λ w. perform_read reading w store at)
+      (p : Parsed) → reading ≡ Ok p → 0 < h.sizes.n → h.sizes.n ≤ named_site p.command → c ≡ refused_change 8 h at s →
+      Acts h (actor reading h.sizes.n) s c store (λ w. perform_read reading w store at)
   unfolding perform_read actor
   acts_unnamed p e some past f = rw (e, f, le-ltb _ _ past) (unnamed_acts p.command h s store at p.next some past)
 
 -- a change on the site that a list's command acts on
 pub acts_played :
-    (sites : List Site) (h : Head) (store list : List ℕ) (at : ℕ) (reading : Reading) (own : ℕ) (s : Site) (c : Change)
+    (sites : List Site) (h : Head) (store list : List ℕ) (at : ℕ) (reading : Reading) (own : ℕ) (s : Site) (c : SiteChange)
     (after : List ℕ) →
-    reading ≡ read_command list at → own ≡ actor reading h.n → s ≡ site_of (world_of sites h) own →
-    Acts h (actor reading h.n) s c after (λ w. perform_read reading w store at) →
+    reading ≡ read_command list at → own ≡ actor reading h.sizes.n → s ≡ site_of (world_of sites h) own →
+    Acts h (actor reading h.sizes.n) s c after (λ w. perform_read reading w store at) →
     (changed (world_of sites h) own c ≡ played_of (play_command (world_of sites h) store list at))
     × (after ≡ (play_command (world_of sites h) store list at).store)
 unfolding Acts play_command
 acts_played sites h store list at reading own s c after e f g acts = rw (f, ← e) (acts sites (rw f at (sym g)))
+
+-- what is told where nothing changed is the world itself
+pub refused_told :
+    (w : World) (i number place : ℕ) (s : Site) → s ≡ site_of w i →
+    changed w i (refused_change number (head_of w) place s) ≡ record { number = number; world = w; place = place }
+unfolding changed head_of world_of with_news with_rows with_site site_of
+refused_told w i number place s e =
+    ap (λ l. record { number = number; world = world_of l (head_of w); place = place })
+    (ap (λ x. set w.sites i x) e ∙ set-get_or w.sites i (blank_site false))

@@ -10,11 +10,15 @@ use Rattle.site.specs.declared.CommitQuorum.{CommitQuorum}
 use Rattle.site.specs.declared.AbortQuorum.{AbortQuorum}
 use Rattle.weights.specs.Weights.{even_weights}
 use Rattle.world.specs.Sizes.{sites_fit, sizes_number}
+use Rattle.command.specs.declared.Delivery.{Delivery}
 use Rattle.command.specs.declared.Command.{Command}
 use Rattle.command.specs.declared.Command.TheVariants as Command·
 use Rattle.header.specs.Headers.{header_sizes, first_sizes}
 use Rattle.header.specs.laws.FirstLaws.{FirstSized, first-sized}
-use Rattle.text.specs.laws.Written.{Written, joined}
+use Rattle.text.specs.declared.Page.{Page}
+use Rattle.text.specs.Page.{Put}
+use Rattle.text.specs.laws.Written.{Written}
+use Rattle.text.specs.laws.PageLaws.{joined}
 use Rattle.spelling.specs.Spelling.{header_bytes, command_bytes}
 use Rattle.spelling.specs.Ranges.{HeaderInRange}
 use Rattle.spelling.specs.Script.{spelled_by}
@@ -85,40 +89,49 @@ quiet_list-length n c a some =
     let three : List ℕ = bytes (exchange replies_after waited (2 * n) (n - 1)) in
     omega (arith, list_length (quiet_header n c a) (quiet n), ap length (quiet-bytes n), length-append (one ++ two) three, length-append one two, exchange-length Command·.Start 0 (n - 1), exchange-length waited n (n - 1), exchange-length waited (2 * n) (n - 1))
 
+-- deliveries by a rule, to the first m sites
+unfoldable pub each : (ℕ → Command) → ℕ → List Command
+each rule zero = []
+each rule (suc m) = each rule m ++ (rule (suc m) ∷ [])
+
+-- what gives a delivery for a site follows the rule
+abbrev pub Delivers : (ℕ → Delivery → Type 0) → (ℕ → Command) → Type 0
+Delivers post rule = (k : ℕ) (d : Delivery) → post k d → Command·.Deliver d ≡ rule k
+
+to_is : (k m : ℕ) → each (row_to k) m ≡ to_each k m
+unfolding each to_each
+to_is k zero = refl
+to_is k (suc m) = ap (λ cs. cs ++ (row_to k (suc m) ∷ [])) (to_is k m)
+
+from_is : (k m : ℕ) → each (λ j. row_to (k + j) 0) m ≡ from_each k m
+unfolding each from_each
+from_is k zero = refl
+from_is k (suc m) = ap (λ cs. cs ++ (row_to (k + suc m) 0 ∷ [])) (from_is k m)
+
 -- a delivery more
-module _ {b m a : List ℕ} {at next then : ℕ} where
-  delivered :
-      (cs : List Command) (c : Command) → Written b at (bytes cs) m next → Written m next (command_bytes c) a then →
-      Written b at (bytes (cs ++ (c ∷ []))) a then
-  delivered cs c w v = rw (bytes-more cs c) (joined w v)
-
-  pub to-more :
-      (k j : ℕ) → Written b at (bytes (to_each k j)) m next → Written m next (command_bytes (row_to k (j + 1))) a then →
-      Written b at (bytes (to_each k (j + 1))) a then
-  unfolding to_each
-  to-more k j w v = rw add-one (delivered (to_each k j) (row_to k (suc j)) w (rw add-one at v))
-
-  pub from_more :
-      (k j : ℕ) → Written b at (bytes (from_each k j)) m next → Written m next (command_bytes (row_to (k + (j + 1)) 0)) a then →
-      Written b at (bytes (from_each k (j + 1))) a then
-  unfolding from_each
-  from_more k j w v = rw add-one (delivered (from_each k j) (row_to (k + suc j) 0) w (rw add-one at v))
+pub each-more :
+    {p q r : Page} (rule : ℕ → Command) (j : ℕ) (c : Command) → c ≡ rule (j + 1) → Put p (bytes (each rule j)) q →
+    Put q (command_bytes c) r → Put p (bytes (each rule (j + 1))) r
+unfolding each
+each-more {q = q} {r = r} rule j c e w v =
+    let one : Put q (command_bytes (rule (suc j))) r = rw (e, add-one) at v in
+    rw (add-one, bytes-more (each rule j) (rule (suc j))) (joined w one)
 
 -- a whole exchange
 pub exchanged :
-    {b m o a : List ℕ} {at next then end : ℕ} (opening : Command) (k j : ℕ) → Written b at (command_bytes opening) m next →
-    Written m next (bytes (to_each k j)) o then → Written o then (bytes (from_each k j)) a end →
-    Written b at (bytes (exchange replies_after opening k j)) a end
-exchanged opening k j w v u = rw (exchange-bytes opening k j) (joined w (joined v u))
+    {p q r s : Page} (opening : Command) (k j : ℕ) → Put p (command_bytes opening) q → Put q (bytes (each (row_to k) j)) r →
+    Put r (bytes (each (λ i. row_to (k + i) 0) j)) s → Put p (bytes (exchange replies_after opening k j)) s
+exchanged opening k j w v u =
+    rw (exchange-bytes opening k j) (joined w (joined (rw (to_is k j) at v) (rw (from_is k j) at u)))
 
 -- the whole list: the header, and three exchanges
-pub all-written :
-    {b h s t a : List ℕ} {i j k end : ℕ} (n : ℕ) (c : CommitQuorum) (q : AbortQuorum) →
-    Written b 0 (header_bytes (quiet_header n c q)) h i → Written h i (bytes (exchange replies_after Command·.Start 0 (n - 1))) s j →
-    Written s j (bytes (exchange replies_after waited n (n - 1))) t k →
-    Written t k (bytes (exchange replies_after waited (2 * n) (n - 1))) a end → Written b 0 (quiet_list n c q) a end
+pub all-put :
+    {p q r s t : Page} (n : ℕ) (c : CommitQuorum) (a : AbortQuorum) → Put p (header_bytes (quiet_header n c a)) q →
+    Put q (bytes (exchange replies_after Command·.Start 0 (n - 1))) r →
+    Put r (bytes (exchange replies_after waited n (n - 1))) s →
+    Put s (bytes (exchange replies_after waited (2 * n) (n - 1))) t → Put p (quiet_list n c a) t
 unfolding quiet_list bytes_of
-all-written n c q w x y z = rw (quiet-bytes n) (joined w (joined (joined x y) z))
+all-put n c a w x y z = rw (quiet-bytes n) (joined w (joined (joined x y) z))
 
 -- the sizes' number is the header's, where every site weighs 1
 pub quiet-number :

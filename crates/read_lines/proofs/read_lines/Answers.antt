@@ -7,10 +7,20 @@ use Rattle.read_lines.proofs.read_lines.Goals as goal
 
 pub returns-in_default : goal.returns-in_default
 unfolding refuse
-returns-in_default c = let e = lines_missing c.args.text.now c.args.buffer.now (sym c.read_header_line-reading.ensures ∙ c.in_default.is) in record { value = rw e c.refused.ensures; buffer_after = rw e; length_in_bounds = (rw c.refused.ensures (omega arith), rw c.refused.ensures (omega arith)) }
+returns-in_default c =
+    let e = lines_missing c.args.text.now c.args.buffer.now (sym c.read_header_line.ensures ∙ c.in_default.is) in
+    record { value = rw (e, c.into.ensures); buffer_after = rw e; length_in_bounds = rw c.into.ensures (omega arith, omega arith) }
 
 pub read_commands-requires : goal.read_commands-requires
-read_commands-requires c = let l = header_line_spelt _ _ (sym c.read_header_line-reading.ensures ∙ c.in-Found.is) in (l.in_range, omega (arith, l.next-is, header_line-longer c.in-Found.line.header), l.inside)
+read_commands-requires c =
+    let l = header_line_spelt _ _ (sym c.read_header_line.ensures ∙ c.in-Some.is) in
+    (l.in_range, omega (arith, l.next-is, header_line-longer c.in-Some.line.header), l.inside)
 
 pub returns : goal.returns
-returns c = let e = lines-found c.args.text.now c.args.buffer.now _ (sym c.read_header_line-reading.ensures ∙ c.in-Found.is) in record { value = rw e c.read_commands.ensures.value; buffer_after = rw e c.read_commands.ensures.buffer_after; length_in_bounds = c.read_commands.ensures.length_in_bounds }
+returns c =
+    let e = lines-found c.args.text.now c.args.buffer.now _ (sym c.read_header_line.ensures ∙ c.in-Some.is) in
+    record {
+      value = rw e c.read_commands.ensures.value;
+      buffer_after = rw e c.read_commands.ensures.buffer_after;
+      length_in_bounds = c.read_commands.ensures.length_in_bounds;
+    }

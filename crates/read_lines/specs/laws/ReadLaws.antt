@@ -1,5 +1,5 @@
 -- Laws of reading lines: what measuring a text gives, and what each return of the call leaves.
-use Rattle.std.specs.Prelude.{ℕ, ◌+◌, ◌<◌, ◌≤◌, List, ◌≡◌, refl, ltb, eqb}
+use Rattle.std.specs.Prelude.{ℕ, ◌+◌, ◌<◌, ◌≤◌, List, ◌≡◌, refl, ltb, eqb, Some, None}
 use Rattle.std.proofs.Math.Path.{sym, ap}
 use Rattle.std.proofs.Common.{◌∙◌, arith}
 use Rattle.std.proofs.Math.ListN.{length}
@@ -7,13 +7,13 @@ use borrow.Author.Tests.{lt-ltb, le-ltb, eq-eqb, ne_eqb}
 use Rattle.choice.specs.laws.Cases.{by_test}
 use Rattle.text.specs.laws.Written.{Written}
 use Rattle.command.specs.declared.Parsed.{Parsed}
-use Rattle.command.specs.declared.Refusal.{Refusal}
-use Rattle.command.specs.declared.Reading.TheVariants as Reading·
+use Rattle.refusals.specs.Refusals.{number_of}
+use Rattle.refusals.specs.declared.Refusal.{Refusal}
+use Rattle.std.specs.Prelude.{Ok, Err}
 use Rattle.command.specs.Commands.{found}
 use Rattle.header.specs.declared.Header.{Header}
 use Rattle.spelling.specs.declared.HeaderLine.{HeaderLine}
-use Rattle.spelling.specs.declared.HeaderReading.TheVariants as HeaderReading·
-use Rattle.spelling.specs.declared.Spelled.{Spelled}
+use Rattle.spelling.specs.Answers.{Answer}
 use Rattle.spelling.specs.Spelling.{command_line, command_bytes}
 use Rattle.spelling.specs.LineReading.{read_line, read_header_line}
 use Rattle.spelling.specs.Script.{spelled_by}
@@ -26,17 +26,17 @@ use Rattle.spelling.specs.laws.LineBack.{line_spelt, line_refused, line_longer, 
 use Rattle.spelling.specs.laws.BytesBack.{list_length}
 
 -- what measuring a text from a place on gives, its header's five bytes included
-unfoldable pub measured : List ℕ → ℕ → Spelled
+unfoldable pub measured : List ℕ → ℕ → Answer
 measured s from =
     measured_by (text_script s from) (length s) (5 + length (spelled_by command_bytes (text_script s from).commands))
 
 -- the line reader's refusals have a number
-pub refused-number : (s : List ℕ) (at : ℕ) (r : Refusal) → read_line s at ≡ Reading·.Refused r → 1 ≤ r.number
-refused-number s at r e = omega (arith, (line_refused s at r e).0)
+pub refused-number : (s : List ℕ) (at : ℕ) (r : Refusal) → read_line s at ≡ Err r → 1 ≤ number_of r.reason
+refused-number s at r e = omega (arith, ap number_of (line_refused s at r e).0)
 
 -- a line that is read is in range, and ends further on than its command's bytes
 pub line_at :
-    (s : List ℕ) (at : ℕ) (p : Parsed) → at ≤ length s → read_line s at ≡ Reading·.Found p →
+    (s : List ℕ) (at : ℕ) (p : Parsed) → at ≤ length s → read_line s at ≡ Ok p →
     Spelt command_line s at p.command p.next
 unfolding found
 line_at s at p h e = line_spelt s at p.command p.next h e
@@ -45,7 +45,7 @@ pub text_forward : (s : List ℕ) → Forward (read_line s) (length s)
 text_forward s at p h e = omega (arith, (line_at s at p (omega arith) e).next-is, line_longer p.command)
 
 pub bytes_behind :
-    (s : List ℕ) (at : ℕ) (p : Parsed) → at ≤ length s → read_line s at ≡ Reading·.Found p →
+    (s : List ℕ) (at : ℕ) (p : Parsed) → at ≤ length s → read_line s at ≡ Ok p →
     at + length (command_bytes p.command) ≤ p.next
 bytes_behind s at p h e = omega (arith, (line_at s at p h e).next-is, bytes-fewer p.command)
 
@@ -121,12 +121,12 @@ module _ (s : List ℕ) (h : Header) (from : ℕ) (b : List ℕ) where
           (ap (λ m. record { answer = m; buffer = a }) (sym measured-is))
 
 -- by the first line
-pub lines_missing : (s b : List ℕ) → read_header_line s ≡ HeaderReading·.Missing → read_lines s b ≡ refuse 19 0 b
+pub lines_missing : (s b : List ℕ) → read_header_line s ≡ None → read_lines s b ≡ refuse 19 0 b
 unfolding read_lines after_header
 lines_missing s b e = rw e
 
 pub lines-found :
-    (s b : List ℕ) (l : HeaderLine) → read_header_line s ≡ HeaderReading·.Found l →
+    (s b : List ℕ) (l : HeaderLine) → read_header_line s ≡ Some l →
     read_lines s b ≡ read_commands s l.header l.next b
 unfolding read_lines after_header
 lines-found s b l e = rw e

@@ -1,17 +1,16 @@
 -- What a call accepts is one spelling of a header and commands, and it puts out the other.
-use Rattle.std.specs.Prelude.{ℕ, ◌≤◌, List, ◌≡◌, refl, ltb, eqb, length}
+use Rattle.std.specs.Prelude.{ℕ, ◌≤◌, List, ◌≡◌, refl, ltb, eqb, length, Option, Some, None}
 use Rattle.std.proofs.Common.{ap, ◌∙◌, arith, ltb-false}
 use Rattle.choice.specs.Choice.{pick}
 use Rattle.choice.specs.laws.ChoiceLaws.{pick_ind}
 use Rattle.world.specs.Sizes.{list_bytes}
+use Rattle.refusals.specs.Refusals.{number_of}
 use Rattle.command.specs.declared.Command.{Command}
 use Rattle.command.specs.Commands.{found, read_command}
 use Rattle.header.specs.declared.Header.{Header}
 use Rattle.header.specs.Headers.{first_header, first_sizes, first_number}
 use Rattle.header.specs.laws.HeaderLaws.{first-headed, first_sizes-small}
 use Rattle.spelling.specs.declared.HeaderLine.{HeaderLine}
-use Rattle.spelling.specs.declared.HeaderReading.{HeaderReading}
-use Rattle.spelling.specs.declared.HeaderReading.TheVariants as HeaderReading·
 use Rattle.spelling.specs.Spelling.{command_line, command_bytes}
 use Rattle.spelling.specs.LineReading.{read_line, read_header_line}
 use Rattle.spelling.specs.Script.{Script}
@@ -96,7 +95,7 @@ module _ (s : List ℕ) (l : HeaderLine) (first : HeaderLineSpelt s l) where
   unfolding lines_of
   text-is read =
       first.left
-      ∙ rw (whole_spelt command_line s (read_line s) l.next (text_script s l.next) (λ at r e. omega (arith, (line_refused s at r e).0)) text_spelt read)
+      ∙ rw (whole_spelt command_line s (read_line s) l.next (text_script s l.next) (λ at r e. omega (arith, ap number_of (line_refused s at r e).0)) text_spelt read)
 
 -- 1 and 3 to 5 do not refuse
 pub none_spelled : (h : Header) (n : ℕ) → spelled_number h n ≡ 0 → (n ≤ list_bytes) × (first_sizes h ≡ 0)
@@ -145,6 +144,6 @@ pub read_from_lem : (s b : List ℕ) → (read_lines s b).answer.number ≡ 0 �
 unfolding read_lines after_header refuse
 read_from_lem s b e = go (read_header_line s) refl
   where
-    go : (x : HeaderReading) → read_header_line s ≡ x → Accepted read_lines lines_of bytes_of s b
-    go HeaderReading·.Missing m = let z : ◌≡◌ {A = ℕ} 19 0 = rw m at e in absurd (omega arith)
-    go (HeaderReading·.Found l) m = found_from s b l (header_line_spelt s l m) (ap (λ x. after_header s b x) m) e
+    go : (x : Option HeaderLine) → read_header_line s ≡ x → Accepted read_lines lines_of bytes_of s b
+    go None m = let z : ◌≡◌ {A = ℕ} 19 0 = rw m at e in absurd (omega arith)
+    go (Some l) m = found_from s b l (header_line_spelt s l m) (ap (λ x. after_header s b x) m) e

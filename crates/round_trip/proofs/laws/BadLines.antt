@@ -1,17 +1,15 @@
 -- 19 is given exactly at the first line that is not in its form.
-use Rattle.std.specs.Prelude.{ℕ, ◌≤◌, List, ◌++◌, ◌≡◌, refl, ltb, eqb, length, drop}
+use Rattle.std.specs.Prelude.{ℕ, ◌≤◌, List, ◌++◌, ◌≡◌, refl, ltb, eqb, length, drop, Option, Some, None}
 use Rattle.std.proofs.Common.{append_assoc, ap, ◌∙◌, arith, eq-eqb, ne_eqb}
 use Rattle.std.proofs.Math.Seq.{drop-append_seam}
 use Rattle.choice.specs.laws.Cases.{by_test, by_equal}
 use Rattle.command.specs.declared.Command.{Command}
-use Rattle.command.specs.declared.Refusal.{Refusal}
-use Rattle.command.specs.declared.Reading.{Reading}
-use Rattle.command.specs.declared.Reading.TheVariants as Reading·
+use Rattle.refusals.specs.declared.Refusal.{Refusal}
+use Rattle.command.specs.Readings.{Reading}
+use Rattle.std.specs.Prelude.{Ok, Err}
 use Rattle.command.specs.Commands.{found, refused}
 use Rattle.header.specs.declared.Header.{Header}
 use Rattle.spelling.specs.declared.HeaderLine.{HeaderLine}
-use Rattle.spelling.specs.declared.HeaderReading.{HeaderReading}
-use Rattle.spelling.specs.declared.HeaderReading.TheVariants as HeaderReading·
 use Rattle.spelling.specs.Spelling.{header_line, command_line}
 use Rattle.spelling.specs.Ranges.{InRange}
 use Rattle.spelling.specs.LineReading.{bad_line, read_line, read_header_line}
@@ -35,7 +33,7 @@ list-other s h commands b =
 
 -- where a line is refused, none stands
 none-stands :
-    (s : List ℕ) (at : ℕ) (r : Refusal) → read_line s at ≡ Reading·.Refused r → (c : Command) (t : List ℕ) →
+    (s : List ℕ) (at : ℕ) (r : Refusal) → read_line s at ≡ Err r → (c : Command) (t : List ℕ) →
     InRange c → drop at s ≡ command_line c ++ t → ⊥
 unfolding found
 none-stands s at r refused c t ok e =
@@ -51,8 +49,8 @@ unfolding bad_line refused found
 none-refused s at inside none = go (read_line s at) refl
   where
     go : (x : Reading) → read_line s at ≡ x → x ≡ bad_line at
-    go (Reading·.Refused r) e = let f = line_refused s at r e in rw (← f.0, ← f.1)
-    go (Reading·.Found p) e =
+    go (Err r) e = let f = line_refused s at r e in rw (← f.0, ← f.1)
+    go (Ok p) e =
         let f : LineSpelt s at p.command p.next = line_spelt s at p.command p.next inside e in
         absurd (none p.command (drop p.next s) f.in_range f.left)
 
@@ -87,21 +85,21 @@ pub first-bad_line : FirstBadLine
 unfolding read_lines after_header refuse
 first-bad_line s b = go (read_header_line s) refl
   where
-    go : (x : HeaderReading) → read_header_line s ≡ x → (after_header s b x).answer.number ≡ 19 → BadLine s (after_header s b x).answer.place
-    go HeaderReading·.Missing m e =
+    go : (x : Option HeaderLine) → read_header_line s ≡ x → (after_header s b x).answer.number ≡ 19 → BadLine s (after_header s b x).answer.place
+    go None m e =
         BadLine.first_line λ h t ok f.
         let r = header_line-reads s h t ok f in
         let z : ◌≡◌ {A = ℕ} 0 1 = cc in
         omega arith
-    go (HeaderReading·.Found l) m e = commands_bad s l (header_line_spelt s l m) b e
+    go (Some l) m e = commands_bad s l (header_line_spelt s l m) b e
 
 pub bad_line-refused : BadLineRefused
 unfolding read_lines after_header read_commands refuse text_script lines_of bad_line refused
 bad_line-refused s b _ (BadLine.first_line none) = go (read_header_line s) refl
   where
-    go : (x : HeaderReading) → read_header_line s ≡ x → ((after_header s b x).answer.number ≡ 19) × ((after_header s b x).answer.place ≡ 0)
-    go HeaderReading·.Missing m = (refl, refl)
-    go (HeaderReading·.Found l) m =
+    go : (x : Option HeaderLine) → read_header_line s ≡ x → ((after_header s b x).answer.number ≡ 19) × ((after_header s b x).answer.place ≡ 0)
+    go None m = (refl, refl)
+    go (Some l) m =
         let first : HeaderLineSpelt s l = header_line_spelt s l m in
         absurd (none l.header (drop l.next s) first.in_range first.left)
 bad_line-refused s b _ (BadLine.later_line h commands at low ok begins long inside none) =

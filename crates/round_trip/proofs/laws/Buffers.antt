@@ -1,12 +1,11 @@
 -- A refusal leaves the buffer, and an output what lies beyond it.
-use Rattle.std.specs.Prelude.{ℕ, suc, ◌+◌, ◌≤◌, Bool, true, false, List, [], ◌∷◌, ◌≡◌, refl, ltb, length, get_or, set}
+use Rattle.std.specs.Prelude.{ℕ, suc, ◌+◌, ◌≤◌, Bool, true, false, List, [], ◌∷◌, ◌≡◌, refl, ltb, length, get_or, set, Option, Some, None}
 use Rattle.std.proofs.Common.{◌∙◌, arith, get_or-set_other}
 use Rattle.std.proofs.lemmas.List.Edits.{sets}
 use Rattle.std.proofs.Math.Seq.{length-sets}
 use Rattle.choice.specs.Choice.{pick}
+use Rattle.spelling.specs.declared.HeaderLine.{HeaderLine}
 use Rattle.header.specs.declared.Header.{Header}
-use Rattle.spelling.specs.declared.HeaderReading.{HeaderReading}
-use Rattle.spelling.specs.declared.HeaderReading.TheVariants as HeaderReading·
 use Rattle.spelling.specs.LineReading.{read_header_line}
 use Rattle.spelling.specs.WriteRead.{Output, refuse, put_out, write_lines, read_list, read_commands, after_header, read_lines}
 use Rattle.round_trip.specs.Claims.{Untouched, BufferKept}
@@ -46,10 +45,10 @@ commands-untouched : (s : List ℕ) (h : Header) (at : ℕ) (b : List ℕ) → U
 unfolding read_commands read_list
 commands-untouched s h at b = search (pick-untouched, put-untouched, refuse-untouched)
 
-after_untouched : (s b : List ℕ) (x : HeaderReading) → Untouched (after_header s b x) b
+after_untouched : (s b : List ℕ) (x : Option HeaderLine) → Untouched (after_header s b x) b
 unfolding after_header
-after_untouched s b HeaderReading·.Missing = refuse-untouched 19 0 b
-after_untouched s b (HeaderReading·.Found l) = commands-untouched s l.header l.next b
+after_untouched s b None = refuse-untouched 19 0 b
+after_untouched s b (Some l) = commands-untouched s l.header l.next b
 
 pub buffer-kept : BufferKept
 unfolding read_lines

@@ -1,20 +1,19 @@
 -- In a buffer with room for the longest text, or the longest list, 20 is not met.
 use Prim.Native.Nat.{ℕ, ◌≤◌}
 use mathlib.Core.List.{List}
-use Rattle.std.specs.Prelude.{◌≡◌, length}
+use Rattle.std.specs.Prelude.{◌≡◌, length, Option, Some, None}
 use Rattle.std.proofs.Math.Path.{refl}
 use native.Mathlib.Omega.{arith}
-use Rattle.std.proofs.Common.{eq-eqb, ne_eqb}
+use Rattle.std.proofs.Common.{ap, eq-eqb, ne_eqb}
 use Rattle.choice.specs.laws.Cases.{by_equal}
 use Rattle.world.specs.Sizes.{list_bytes, text_bytes}
+use Rattle.refusals.specs.Refusals.{number_of}
 use Rattle.command.specs.declared.Command.{Command}
 use Rattle.command.specs.Commands.{read_command}
 use Rattle.header.specs.declared.Header.{Header}
 use Rattle.header.specs.Headers.{first_header, first_number}
 use Rattle.header.specs.laws.HeaderLaws.{first_small}
 use Rattle.spelling.specs.declared.HeaderLine.{HeaderLine}
-use Rattle.spelling.specs.declared.HeaderReading.{HeaderReading}
-use Rattle.spelling.specs.declared.HeaderReading.TheVariants as HeaderReading·
 use Rattle.spelling.specs.Spelling.{command_line, command_bytes}
 use Rattle.spelling.specs.LineReading.{read_line, read_header_line}
 use Rattle.spelling.specs.Script.{Script}
@@ -58,15 +57,15 @@ module _ (s b : List ℕ) (room : list_bytes ≤ length b) where
       by_equal x.number 0
       (λ none. rw (eq-eqb x.number 0 none) (omega (arith, list-below l.header x.commands)))
       (λ some. rw (ne_eqb x.number 0 some)
-      (script_below command_line s (read_line s) 19 l.next x (λ at r e. omega (arith, (line_refused s at r e).0)) (text_spelt s l first)))
+      (script_below command_line s (read_line s) 19 l.next x (λ at r e. omega (arith, ap number_of (line_refused s at r e).0)) (text_spelt s l first)))
 
   read_below : (read_lines s b).answer.number ≤ 19
   unfolding read_lines after_header refuse
   read_below = go (read_header_line s) refl
     where
-      go : (x : HeaderReading) → read_header_line s ≡ x → (after_header s b x).answer.number ≤ 19
-      go HeaderReading·.Missing m = omega arith
-      go (HeaderReading·.Found l) m = commands-below l (header_line_spelt s l m)
+      go : (x : Option HeaderLine) → read_header_line s ≡ x → (after_header s b x).answer.number ≤ 19
+      go None m = omega arith
+      go (Some l) m = commands-below l (header_line_spelt s l m)
 
 pub room-enough : RoomEnough
 room-enough s b bytes = (λ room e. omega (arith, written_below s b bytes room), λ room e. omega (arith, read_below s b room))

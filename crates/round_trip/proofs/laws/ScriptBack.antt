@@ -12,9 +12,10 @@ use Rattle.choice.specs.laws.Cases.{by_test}
 use Rattle.scan.specs.laws.ReadBack.{word_left}
 use Rattle.command.specs.declared.Command.{Command}
 use Rattle.command.specs.declared.Parsed.{Parsed}
-use Rattle.command.specs.declared.Refusal.{Refusal}
-use Rattle.command.specs.declared.Reading.{Reading}
-use Rattle.command.specs.declared.Reading.TheVariants as Reading·
+use Rattle.refusals.specs.Refusals.{number_of}
+use Rattle.refusals.specs.declared.Refusal.{Refusal}
+use Rattle.command.specs.Readings.{Reading}
+use Rattle.std.specs.Prelude.{Ok, Err}
 use Rattle.command.specs.Commands.{found}
 use Rattle.spelling.specs.Ranges.{InRange, AllInRange}
 use Rattle.spelling.specs.Script.{Script, stop, first, script_from, spelled_by}
@@ -30,7 +31,7 @@ module _ (spell : Command → List ℕ) (s : List ℕ) (read : ℕ → Reading) 
   pub data Ended (upto : ℕ) (x : Script) : Type 0 where
     at-end : x.number ≡ 0 → x.place ≡ upto → upto ≡ length s → Ended upto x
     at-refusal :
-        (r : Refusal) → read upto ≡ Reading·.Refused r → x.number ≡ r.number → x.place ≡ r.place →
+        (r : Refusal) → read upto ≡ Err r → x.number ≡ number_of r.reason → x.place ≡ r.place →
         upto < length s → Ended upto x
 
   -- its commands are what is left at its beginning, up to there
@@ -67,7 +68,7 @@ module _ (spell : Command → List ℕ) (s : List ℕ) (read : ℕ → Reading) 
 
   -- a script whose number is 0 is all that is left, if refusals have numbers
   pub whole_spelt :
-      (at : ℕ) (x : Script) → ((at : ℕ) (r : Refusal) → read at ≡ Reading·.Refused r → 1 ≤ r.number) →
+      (at : ℕ) (x : Script) → ((at : ℕ) (r : Refusal) → read at ≡ Err r → 1 ≤ number_of r.reason) →
       ScriptSpelt at x → x.number ≡ 0 → drop at s ≡ spelled_by spell x.commands
   whole_spelt at x numbered p e = go p.ended
     where
@@ -77,7 +78,7 @@ module _ (spell : Command → List ℕ) (s : List ℕ) (read : ℕ → Reading) 
 
   -- a script's number is 0 or a refusal's
   pub script_below :
-      (n at : ℕ) (x : Script) → ((at : ℕ) (r : Refusal) → read at ≡ Reading·.Refused r → r.number ≤ n) →
+      (n at : ℕ) (x : Script) → ((at : ℕ) (r : Refusal) → read at ≡ Err r → number_of r.reason ≤ n) →
       ScriptSpelt at x → x.number ≤ n
   script_below n at x below p = go p.ended
     where
@@ -98,7 +99,7 @@ module _ (spell : Command → List ℕ) (s : List ℕ) (read : ℕ → Reading) 
   module _ (longer : (c : Command) → 1 ≤ length (spell c)) where
     -- COMMANDS THAT ARE READ are spelled there
     pub script-spelt :
-        ((at : ℕ) (p : Parsed) → at ≤ length s → read at ≡ Reading·.Found p → Spelt spell s at p.command p.next) →
+        ((at : ℕ) (p : Parsed) → at ≤ length s → read at ≡ Ok p → Spelt spell s at p.command p.next) →
         (fuel at : ℕ) → length s - at ≤ fuel → at ≤ length s → ScriptSpelt at (script_from fuel read (length s) at)
     unfolding script_from stop
     script-spelt spelt zero at enough inside = none_spelt at (stop 0 at) refl (Ended.at-end refl refl (omega arith))
@@ -110,10 +111,10 @@ module _ (spell : Command → List ℕ) (s : List ℕ) (read : ℕ → Reading) 
         step-spelt :
             ((next : ℕ) → length s - next ≤ fuel → next ≤ length s → ScriptSpelt next (script_from fuel read (length s) next)) →
             at < length s → (x : Reading) → read at ≡ x → ScriptSpelt at (script_from (suc fuel) read (length s) at)
-        step-spelt others room (Reading·.Refused r) e =
+        step-spelt others room (Err r) e =
             rw (step-refused read (length s) fuel at r room e)
-            (none_spelt at (stop r.number r.place) refl (Ended.at-refusal r e refl refl room))
-        step-spelt others room (Reading·.Found p) e =
+            (none_spelt at (stop (number_of r.reason) r.place) refl (Ended.at-refusal r e refl refl room))
+        step-spelt others room (Ok p) e =
             let h : Spelt spell s at p.command p.next = spelt at p inside e in
             rw (step-found read (length s) fuel at p room e)
             (first_spelt at p.command p.next _ h (others p.next (omega (arith, longer p.command)) h.inside))

@@ -1,7 +1,7 @@
 -- A header and commands that both calls accept: writing takes the one spelling to the other, and reading takes it back.
 use Prim.Native.Nat.{ℕ, ◌+◌, ◌≤◌}
 use mathlib.Core.List.{List}
-use Rattle.std.specs.Prelude.{◌≡◌, length}
+use Rattle.std.specs.Prelude.{◌≡◌, length, Some}
 use Rattle.std.proofs.Math.Path.{refl}
 use Rattle.std.proofs.Common.{arith, length-append}
 use Rattle.std.proofs.Math.Seq.{drop-append_seam}
@@ -11,7 +11,6 @@ use Rattle.command.specs.declared.Command.{Command}
 use Rattle.command.specs.Commands.{read_command}
 use Rattle.header.specs.declared.Header.{Header}
 use Rattle.header.specs.Headers.{first_header, first_sizes, first_number}
-use Rattle.spelling.specs.declared.HeaderReading.TheVariants as HeaderReading·
 use Rattle.spelling.specs.Spelling.{header_line, command_line, header_bytes, command_bytes}
 use Rattle.spelling.specs.Ranges.{HeaderInRange, AllInRange}
 use Rattle.spelling.specs.LineReading.{read_line, read_header_line}
@@ -60,7 +59,7 @@ module _ (h : Header) (commands : List Command) (ok : Spells h commands) where
   writes b = rw (eq-eqb (first_number (bytes_of h commands)) 0 bytes-number, bytes_script, bytes-header)
 
   -- READING takes the lines to the bytes
-  lines-header : read_header_line (lines_of h commands) ≡ HeaderReading·.Found (record { header = h; next = length (header_line h) })
+  lines-header : read_header_line (lines_of h commands) ≡ Some (record { header = h; next = length (header_line h) })
   unfolding lines_of
   lines-header = header_line-reads (lines_of h commands) h (spelled_by command_line commands) ok.header_ok refl
 

@@ -27,8 +27,8 @@ use Rattle.world.specs.laws.WorldLaws.{valid_parts, valid-sized, put_ind}
 use Rattle.play.specs.Calls.{Call, put_back, enter_silent, enter_row}
 use Rattle.member.specs.declared.Order.{Order}
 use Rattle.member.specs.declared.Order.TheVariants as Order·
-use Rattle.member.specs.declared.Heard.{Heard}
-use Rattle.member.specs.declared.Heard.TheVariants as Heard·
+use Rattle.member.specs.Hearings.{Heard}
+use Rattle.std.specs.Prelude.{Ok, Err}
 use Rattle.member.specs.Orders.{row_in, order_of, read_order}
 use Rattle.member.specs.Steps.{take, start_step, timeout_step, crash_step, recover_step, deliver_step, step_by, step_heard, valid_member, site_step}
 use Rattle.member.specs.Claims.{Long}
@@ -90,14 +90,14 @@ pub record StepOf (w : World) (store : List ℕ) (own : ℕ) (m : Move) : Type 0
 
 -- no order but a delivery is one
 delivers : Heard → Bool
-delivers (Heard·.Refused r) = false
-delivers (Heard·.Found Order·.Start) = false
-delivers (Heard·.Found Order·.Deliver) = true
-delivers (Heard·.Found Order·.Timeout) = false
-delivers (Heard·.Found Order·.Crash) = false
-delivers (Heard·.Found Order·.Recover) = false
+delivers (Err r) = false
+delivers (Ok Order·.Start) = false
+delivers (Ok Order·.Deliver) = true
+delivers (Ok Order·.Timeout) = false
+delivers (Ok Order·.Crash) = false
+delivers (Ok Order·.Recover) = false
 
-none-delivered : (h : Heard) → delivers h ≡ false → h ≡ Heard·.Found Order·.Deliver → ⊥
+none-delivered : (h : Heard) → delivers h ≡ false → h ≡ Ok Order·.Deliver → ⊥
 unfolding delivers
 none-delivered h none e = true≢false (sym (ap delivers e) ∙ none)
 
@@ -120,12 +120,12 @@ module _ (w : World) (store : List ℕ) (valid : valid_world w ≡ true) where
       (rw (lt-ltb i w.n below) ((valid_parts w valid).sites i below))
 
   -- a command that is read as an order is taken by it
-  by_order : (i : ℕ) (bytes : List ℕ) (o : Order) → i < w.n → read_order bytes ≡ Heard·.Found o →
+  by_order : (i : ℕ) (bytes : List ℕ) (o : Order) → i < w.n → read_order bytes ≡ Ok o →
       answer_of (competition_of w) (network_of w store) (record { at = i; command = bytes }) ≡ step_by o bytes (member_of (competition_of w) i) (site_of w i)
   unfolding answer_of site_step step_heard member_of
   by_order i bytes o below e = rw (member-valid i below, e, lt-ltb i w.n below)
 
-  told : (i : ℕ) (m : Move) (bytes : List ℕ) (o : Order) → i < w.n → read_order bytes ≡ Heard·.Found o → delivers (Heard·.Found o) ≡ false →
+  told : (i : ℕ) (m : Move) (bytes : List ℕ) (o : Order) → i < w.n → read_order bytes ≡ Ok o → delivers (Ok o) ≡ false →
       step_by o bytes (member_of (competition_of w) i) (site_of w i) ≡ take m → StepOf w store i m
   unfolding Genuine
   told i m bytes o below e none step =
@@ -136,7 +136,7 @@ module _ (w : World) (store : List ℕ) (valid : valid_world w ≡ true) where
       }
 
   -- the row where it lies in the store, after a 2
-  row_read : (k : ℕ) → row_place (k + 1) ≤ length store → read_order (2 ∷ drop (row_place k) store) ≡ Heard·.Found Order·.Deliver
+  row_read : (k : ℕ) → row_place (k + 1) ≤ length store → read_order (2 ∷ drop (row_place k) store) ≡ Ok Order·.Deliver
   unfolding row_place
   row_read k room = bytes-deliver (drop (row_place k) store) (omega (arith, length-drop (row_place k) store))
 

@@ -40,11 +40,12 @@ use Rattle.rules.specs.Rules.{
   restart,
   recover,
 }
+use Rattle.refusals.specs.Refusals.{number_of}
 use Rattle.command.specs.declared.Command.{Command}
 use Rattle.command.specs.declared.Command.TheVariants as Command·
 use Rattle.command.specs.declared.Delivery.{Delivery}
-use Rattle.command.specs.declared.Reading.{Reading}
-use Rattle.command.specs.declared.Reading.TheVariants as Reading·
+use Rattle.command.specs.Readings.{Reading}
+use Rattle.std.specs.Prelude.{Ok, Err}
 use Rattle.command.specs.Commands.{found, read_command}
 use Rattle.world.specs.declared.World.{World}
 use Rattle.world.specs.Sizes.{max_news, store_bytes, sizes_number}
@@ -248,10 +249,10 @@ module _ (w : World) (store : List ℕ) (at : ℕ) where
   quiet_read :
       (r : Reading) → ((d : Delivery) (next : ℕ) → r ≡ found (Command·.Deliver d) next → ⊥) → (perform_read r w store at).news ≡ 0
   unfolding perform_read found
-  quiet_read (Reading·.Refused r) h = quiet-refused r.number r.place
-  quiet_read (Reading·.Found p) h =
+  quiet_read (Err r) h = quiet-refused (number_of r.reason) r.place
+  quiet_read (Ok p) h =
       quiet-perform p.command p.next
-      (λ d e. h d p.next (ap (λ c. Reading·.Found (record { command = c; next = p.next })) e))
+      (λ d e. h d p.next (ap (λ c. Ok (record { command = c; next = p.next })) e))
 
 pub call_tells : CallTells
 unfolding one_command play_command

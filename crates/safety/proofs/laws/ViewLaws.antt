@@ -11,7 +11,10 @@ use Rattle.rules.specs.Rules.{Move, start, timeout, deliver, crash, recover}
 use Rattle.command.specs.declared.Command.{Command}
 use Rattle.command.specs.declared.Command.TheVariants as Command·
 use Rattle.command.specs.declared.Target.{Target}
-use Rattle.command.specs.declared.Reading.{Reading}
+use Rattle.std.specs.Prelude.{Ok, Err}
+use Rattle.refusals.specs.Refusals.{number_of}
+use Rattle.refusals.specs.laws.RefusalLaws.{number-some}
+use Rattle.command.specs.Readings.{Reading}
 use Rattle.command.specs.Commands.{found, refused, target, delivery, read_target, read_delivery, read_byte, read_command}
 use Rattle.world.specs.declared.World.{World}
 use Rattle.world.specs.Sizes.{max_rows, max_news, store_bytes}
@@ -137,61 +140,15 @@ module _ (w : World) (store : List ℕ) (valid : valid_world w ≡ true) (room :
   seen-perform (Command·.Crash t) next = seen-crash next t.site
   seen-perform (Command·.Recover t) next = seen-recover next t.site
 
-  -- what is performed of a reading
-  ReadSeen : Reading → Type 0
-  ReadSeen r = Seen w store (perform_read r w store at)
-
-  seen-found : (c : Command) (next : ℕ) → ReadSeen (found c next)
-  unfolding ReadSeen perform_read found
-  seen-found c next = seen-perform c next
-
-  seen-refused : (number place : ℕ) → (number ≡ 0 → ⊥) → ReadSeen (refused number place)
-  unfolding ReadSeen perform_read refused
-  seen-refused number place h = as_refused number place h
-
-  seen-target : (c : Target → Command) (list : List ℕ) → ReadSeen (read_target c list at)
-  unfolding read_target
-  seen-target c list =
-      pick_ind ReadSeen (leb (at + 2) (length list)) (found (c (target list at)) (at + 2)) (refused 7 at)
-      (λ _. seen-found (c (target list at)) (at + 2)) (λ _. seen-refused 7 at (omega arith))
-
-  seen-delivery : (list : List ℕ) → ReadSeen (read_delivery list at)
-  unfolding read_delivery
-  seen-delivery list =
-      pick_ind ReadSeen (leb (at + 4) (length list)) (found (Command·.Deliver (delivery list at)) (at + 4)) (refused 7 at)
-      (λ _. seen-found (Command·.Deliver (delivery list at)) (at + 4)) (λ _. seen-refused 7 at (omega arith))
-
-  seen_byte : (byte : ℕ) (list : List ℕ) → ReadSeen (read_byte byte list at)
-  unfolding read_byte
-  seen_byte byte list =
-      pick_ind ReadSeen (eqb byte 1) (found Command·.Start (at + 1))
-      (pick (eqb byte 2) (read_delivery list at) (pick (eqb byte 3) (read_target Command·.Timeout list at)
-      (pick (eqb byte 4) (read_target Command·.Crash list at)
-      (pick (eqb byte 5) (read_target Command·.Recover list at) (refused 6 at)))))
-      (λ _. seen-found Command·.Start (at + 1)) λ _.
-      pick_ind ReadSeen (eqb byte 2) (read_delivery list at) (pick (eqb byte 3) (read_target Command·.Timeout list at)
-      (pick (eqb byte 4) (read_target Command·.Crash list at)
-      (pick (eqb byte 5) (read_target Command·.Recover list at) (refused 6 at))))
-      (λ _. seen-delivery list) λ _.
-      pick_ind ReadSeen (eqb byte 3) (read_target Command·.Timeout list at)
-      (pick (eqb byte 4) (read_target Command·.Crash list at)
-      (pick (eqb byte 5) (read_target Command·.Recover list at) (refused 6 at)))
-      (λ _. seen-target Command·.Timeout list) λ _.
-      pick_ind ReadSeen (eqb byte 4) (read_target Command·.Crash list at)
-      (pick (eqb byte 5) (read_target Command·.Recover list at) (refused 6 at))
-      (λ _. seen-target Command·.Crash list) λ _.
-      pick_ind ReadSeen (eqb byte 5) (read_target Command·.Recover list at) (refused 6 at)
-      (λ _. seen-target Command·.Recover list) (λ _. seen-refused 6 at (omega arith))
-
-  seen_read : (list : List ℕ) → ReadSeen (read_command list at)
-  unfolding read_command
-  seen_read list =
-      pick_ind ReadSeen (ltb at (length list)) (read_byte (get_or list at 0) list at) (refused 6 at)
-      (λ _. seen_byte (get_or list at 0) list) (λ _. seen-refused 6 at (omega arith))
+  -- whatever was read
+  seen_read : (reading : Reading) → Seen w store (perform_read reading w store at)
+  unfolding perform_read
+  seen_read (Ok p) = seen-perform p.command p.next
+  seen_read (Err r) = as_refused (number_of r.reason) r.place (number-some r.reason)
 
   seen_play : (list : List ℕ) → Seen w store (play_command w store list at)
-  unfolding play_command ReadSeen
-  seen_play list = seen_read list
+  unfolding play_command
+  seen_play list = seen_read (read_command list at)
 
 pub view : (w : World) (store list : List ℕ) (at : ℕ) → Seen w store (one_command w store list at)
 unfolding one_command

@@ -4,8 +4,5 @@ use lib.ListN.{length}
 use Rattle.scan.specs.Scan.{digits_from}
 use Rattle.scan.proofs.digits_from.Given as goal
 
-abbrev pub invariant-loop-k : goal.invariant-loop-k
-invariant-loop-k l = (l.k ≤ 4) × (l.next ≤ length l.text) × (l.value < 10 ^ (l.k + 1)) × (digits_from (4 - l.k) l.text l.next l.value ≡ digits_from 4 l.text l.at l.first)
-
-abbrev pub decreases-loop-k : goal.decreases-loop-k
-decreases-loop-k l = 4 - l.k
+abbrev pub invariant-loop : goal.invariant-loop
+invariant-loop l = (l.next ≤ length l.text) × (l.value < 10 ^ (l.counter + 1)) × (digits_from (4 - l.counter) l.text l.next l.value ≡ digits_from 4 l.text l.at l.first)

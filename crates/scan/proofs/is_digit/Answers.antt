@@ -1,11 +1,5 @@
-use borrow.Author.Tests.{lt-leb, le-leb}
-use Rattle.scan.specs.Scan.{is_digit}
+use Rattle.scan.specs.laws.NumberLaws.{digit_range}
 use Rattle.scan.proofs.is_digit.Goals as goal
 
-pub returns-then-byte-lt48 : goal.returns-then-byte-lt48
-unfolding is_digit
-returns-then-byte-lt48 c = simp (lt-leb _ _ c.if-byte-lt48.true)
-
 pub returns : goal.returns
-unfolding is_digit
-returns c = simp (le-leb _ _ c.if-byte-lt48.false)
+returns c = digit_range _ _ (rw (c.new.ensures.start, c.new.ensures.end, c.new.ensures.exhausted) at c.contains.ensures.value)

@@ -1,14 +1,19 @@
 -- Laws of a number at a place, as its digits are read one after the other.
-use Rattle.std.specs.Prelude.{ℕ, zero, suc, ◌+◌, ◌*◌, ◌-◌, ◌^◌, ◌<◌, ◌≤◌, true, false, List, ◌≡◌, leb, ltb, length, get_or}
+use Rattle.std.specs.Prelude.{ℕ, zero, suc, ◌+◌, ◌*◌, ◌-◌, ◌^◌, ◌<◌, ◌≤◌, Bool, true, false, ◌&&◌, List, ◌≡◌, leb, ltb, length, get_or, Some, None}
 use Rattle.std.proofs.Common.{arith}
 use Rattle.std.proofs.Math.ListN.{get_or-eq_default}
+use Rattle.std.proofs.lemmas.Bool.Decides.{nat_tests}
+use Rattle.std.specs.Ordering.{is_le, nat_cmp}
 use borrow.Author.Tests.{lt-ltb, le-ltb, le-leb, lt-leb, leb-true, ltb-true, ltb-false}
 use Rattle.choice.specs.laws.Cases.{by_test}
 use Rattle.choice.specs.laws.ChoiceLaws.{both_first, both-second}
 use Rattle.scan.specs.declared.Number.{Number}
-use Rattle.scan.specs.declared.Numeral.{Numeral}
-use Rattle.scan.specs.declared.Numeral.TheVariants as Numeral·
 use Rattle.scan.specs.Scan.{is_digit, number, digits_from, up_to, number_at}
+
+-- the library's test whether a byte lies in a range
+pub digit_range : (r : Bool) (b : ℕ) → r ≡ (is_le (nat_cmp 48 b) && is_le (nat_cmp b 57)) → r ≡ is_digit b
+unfolding is_digit
+digit_range r b e = grind (arith, nat_tests)
 
 -- a digit is a byte of 48 to 57
 pub digit_low : (b : ℕ) → is_digit b ≡ true → 48 ≤ b
@@ -67,10 +72,10 @@ digits_small v (suc (suc (suc (suc k)))) low h = absurd (omega arith)
 
 -- what the digits read give, by the limit
 module _ (limit : ℕ) (s : List ℕ) (at : ℕ) (n : Number) (digit : is_digit (get_or s at 0) ≡ true) (same : n ≡ digits_from 4 s (at + 1) (get_or s at 0 - 48)) where
-  pub number-found : n.value ≤ limit → Numeral·.Found n ≡ number_at limit s at
+  pub number-found : n.value ≤ limit → Some n ≡ number_at limit s at
   unfolding number_at up_to
   number-found low = rw (digit, ← same, le-leb n.value limit low)
 
-  pub number_past : limit < n.value → Numeral·.Missing ≡ number_at limit s at
+  pub number_past : limit < n.value → None ≡ number_at limit s at
   unfolding number_at up_to
   number_past high = rw (digit, ← same, lt-leb n.value limit high)

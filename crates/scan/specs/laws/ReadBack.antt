@@ -1,5 +1,5 @@
 -- Words and numbers at a place read back, both ways: what is left of the text there begins with what was found.
-use Rattle.std.specs.Prelude.{ℕ, zero, suc, ◌+◌, ◌*◌, ◌-◌, ◌^◌, ◌<◌, ◌≤◌, Bool, true, false, List, [], ◌∷◌, ◌++◌, ◌≡◌, refl, eqb, ltb, leb, length, drop, get_or}
+use Rattle.std.specs.Prelude.{ℕ, zero, suc, ◌+◌, ◌*◌, ◌-◌, ◌^◌, ◌<◌, ◌≤◌, Bool, true, false, List, [], ◌∷◌, ◌++◌, ◌≡◌, refl, eqb, ltb, leb, length, drop, get_or, Option, Some, None}
 use Rattle.std.proofs.lemmas.Bool.{false≢true}
 use Rattle.std.proofs.Common.{append_assoc, sym, ap, subst, ◌∙◌, add-one, zero-add, arith, length-append, length-drop, drop-cons, drop-drop, get_or-drop, eq-eqb, eqb-true, lt-ltb, ltb-true, le-leb, leb-true}
 use Rattle.std.proofs.Math.Seq.{append_snoc, drop-append_seam}
@@ -11,8 +11,6 @@ use Rattle.text.specs.Claims.{read_from}
 use Rattle.text.specs.laws.DecimalLaws.{decimal-below, decimal-reads}
 use Rattle.text.specs.laws.DigitLaws.{Digits, more, decimal-one, decimal-more, decimal_digits, decimal-some, nought_alone}
 use Rattle.scan.specs.declared.Number.{Number}
-use Rattle.scan.specs.declared.Numeral.{Numeral}
-use Rattle.scan.specs.declared.Numeral.TheVariants as Numeral·
 use Rattle.scan.specs.Scan.{begins_with, word_at, is_digit, number, digits_from, up_to, number_at, named_at}
 use Rattle.scan.specs.laws.NumberLaws.{digit_low, digit_high, digit_inside, digit_fits, digits_small, number-found}
 
@@ -87,13 +85,13 @@ digits_read (b ∷ ds) (suc k) s at v t (more low high ok) fits some e end =
 -- the number that the text goes on with is found
 pub number-reads :
     (limit x : ℕ) (s : List ℕ) (at : ℕ) (t : List ℕ) → x ≤ limit → x < 100000 → drop at s ≡ decimal x ++ t →
-    is_digit (get_or t 0 0) ≡ false → number_at limit s at ≡ Numeral·.Found (number x (at + length (decimal x)))
+    is_digit (get_or t 0 0) ≡ false → number_at limit s at ≡ Some (number x (at + length (decimal x)))
 unfolding read_from number
 number-reads limit x s at t low high e end = go (decimal x) refl (decimal_digits x)
   where
     go :
         (ds : List ℕ) → decimal x ≡ ds → Digits ds →
-        number_at limit s at ≡ Numeral·.Found (number x (at + length (decimal x)))
+        number_at limit s at ≡ Some (number x (at + length (decimal x)))
     go [] f ok = absurd (omega (arith, decimal-some x, ap length f))
     go (b ∷ ds) f (more least most ok) =
         let g : drop at s ≡ b ∷ ds ++ t = e ∙ ap (λ l. l ++ t) f in
@@ -168,8 +166,8 @@ digits_spelt (suc k) j s at v e h =
 
 -- what a test has let through
 let_through :
-    (t : Bool) (a : Numeral) (n : Number) → pick t a Numeral·.Missing ≡ Numeral·.Found n →
-    (t ≡ true) × (a ≡ Numeral·.Found n)
+    (t : Bool) (a : Option Number) (n : Number) → pick t a None ≡ Some n →
+    (t ≡ true) × (a ≡ Some n)
 let_through true a n e = (refl, e)
 let_through false a n e = let z : ◌≡◌ {A = ℕ} 0 1 = cc in absurd (omega arith)
 
@@ -193,14 +191,14 @@ first_spelt limit s at n e low r =
     }
 
 pub number_spelt :
-    (limit : ℕ) (s : List ℕ) (at : ℕ) (n : Number) → number_at limit s at ≡ Numeral·.Found n → NumberSpelt limit s at n
+    (limit : ℕ) (s : List ℕ) (at : ℕ) (n : Number) → number_at limit s at ≡ Some n → NumberSpelt limit s at n
 unfolding number_at up_to
 number_spelt limit s at n e =
     let m : Number = digits_from 4 s (at + 1) (get_or s at 0 - 48) in
-    let p : (is_digit (get_or s at 0) ≡ true) × (up_to limit m ≡ Numeral·.Found n) =
+    let p : (is_digit (get_or s at 0) ≡ true) × (up_to limit m ≡ Some n) =
     let_through (is_digit (get_or s at 0)) (up_to limit m) n e in
-    let q : (leb m.value limit ≡ true) × (Numeral·.Found m ≡ Numeral·.Found n) =
-    let_through (leb m.value limit) (Numeral·.Found m) n p.1 in
+    let q : (leb m.value limit ≡ true) × (Some m ≡ Some n) =
+    let_through (leb m.value limit) (Some m) n p.1 in
     subst (NumberSpelt limit s at) (cc)
     (first_spelt limit s at m p.0 (leb-true m.value limit q.0)
     (digits_spelt 4 0 s (at + 1) (get_or s at 0 - 48) refl (digit_less (get_or s at 0) p.0)))
@@ -209,7 +207,7 @@ number_spelt limit s at n e =
 pub named-reads :
     (w : List ℕ) (limit x : ℕ) (s : List ℕ) (at : ℕ) (t : List ℕ) → x ≤ limit → x < 100000 →
     drop at s ≡ (w ++ decimal x) ++ t → is_digit (get_or t 0 0) ≡ false →
-    named_at w limit s at ≡ Numeral·.Found (number x (at + length (w ++ decimal x)))
+    named_at w limit s at ≡ Some (number x (at + length (w ++ decimal x)))
 unfolding named_at
 named-reads w limit x s at t low high e end =
     let f : drop at s ≡ w ++ (decimal x ++ t) = rw append_assoc at e in
@@ -225,11 +223,11 @@ pub record NamedSpelt (w : List ℕ) (limit : ℕ) (s : List ℕ) (at : ℕ) (n 
   pub inside : n.next ≤ length s
 
 pub named_spelt :
-    (w : List ℕ) (limit : ℕ) (s : List ℕ) (at : ℕ) (n : Number) → named_at w limit s at ≡ Numeral·.Found n →
+    (w : List ℕ) (limit : ℕ) (s : List ℕ) (at : ℕ) (n : Number) → named_at w limit s at ≡ Some n →
     NamedSpelt w limit s at n
 unfolding named_at
 named_spelt w limit s at n e =
-    let p : (word_at w s at ≡ true) × (number_at limit s (at + length w) ≡ Numeral·.Found n) =
+    let p : (word_at w s at ≡ true) × (number_at limit s (at + length w) ≡ Some n) =
     let_through (word_at w s at) (number_at limit s (at + length w)) n e in
     let r : NumberSpelt limit s (at + length w) n = number_spelt limit s (at + length w) n p.1 in
     record {

@@ -1,14 +1,20 @@
 use native.Mathlib.Omega.{arith}
-use native.Mathlib.Nat.{zero-add}
-use mathlib.Core.Path.{◌∙◌}
-use borrow.Author.Tests.{eq-eqb, ne_eqb}
+use Rattle.std.proofs.Common.{rules, ◌∙◌, zero-add}
+use Rattle.text.specs.laws.PageLaws.{put_whole}
+use Rattle.refusals.specs.laws.RefusalLaws.{number-test}
 use Rattle.spelled_out.specs.Shown.{shown_buffer, shown_length}
 use Rattle.spelled_out.proofs.shown.Goals as goal
 
-pub returns-then-spelled-eq0 : goal.returns-then-spelled-eq0
+pub returns-in-Ok : goal.returns-in-Ok
 unfolding shown_buffer shown_length
-returns-then-spelled-eq0 c = record { buffer_after = simp (eq-eqb _ _ c.if-spelled-eq0.true); value = simp (eq-eqb _ _ c.if-spelled-eq0.true); upper_bound = omega arith }
+returns-in-Ok c = record { buffer_after = rw c.in-Ok.is; value = rw c.in-Ok.is; upper_bound = rw c.in-Ok.is at c.requires.0 }
 
-pub returns : goal.returns
+pub returns-in-Err : goal.returns-in-Err
 unfolding shown_buffer shown_length
-returns c = record { buffer_after = simp (ne_eqb _ _ c.if-spelled-eq0.false) (rw c.wide.ensures.0 at c.put_last.ensures.written.holds); value = simp (ne_eqb _ _ c.if-spelled-eq0.false) (rw c.wide.ensures.0 at c.put_last.ensures.written.ends ∙ zero-add _); upper_bound = omega (arith, c.put_last.ensures.upper_bound) }
+returns-in-Err c =
+    let w = put_whole (rw (c.from-number.ensures, c.from.ensures) at c.put_last.ensures.put) c.new-page.ensures.bytes c.new-page.ensures.place in
+    record {
+      buffer_after = rw (c.in-Err.is, number-test c.in-Err.refusal.reason, ← w.holds) (search rules);
+      value = rw (c.in-Err.is, number-test c.in-Err.refusal.reason) (w.ends ∙ zero-add _);
+      upper_bound = omega (arith, c.put_last.ensures.upper_bound, c.new-page.ensures.place);
+    }

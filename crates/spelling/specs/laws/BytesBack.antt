@@ -11,9 +11,11 @@ use Rattle.command.specs.declared.Target.{Target}
 use Rattle.command.specs.declared.Delivery.{Delivery}
 use Rattle.command.specs.declared.Command.{Command}
 use Rattle.command.specs.declared.Command.TheVariants as Command·
-use Rattle.command.specs.declared.Refusal.{Refusal}
-use Rattle.command.specs.declared.Reading.{Reading}
-use Rattle.command.specs.declared.Reading.TheVariants as Reading·
+use Rattle.refusals.specs.Refusals.{number_of}
+use Rattle.refusals.specs.declared.Reason.TheVariants as Reason·
+use Rattle.refusals.specs.declared.Refusal.{Refusal}
+use Rattle.command.specs.Readings.{Reading}
+use Rattle.std.specs.Prelude.{Err}
 use Rattle.command.specs.Commands.{found, refused, target, delivery, read_target, read_delivery, read_byte, read_command}
 use Rattle.header.specs.declared.Header.{Header}
 use Rattle.header.specs.Headers.{first_header}
@@ -139,12 +141,12 @@ CommandSpelt = Spelt command_bytes
 
 -- an answer says so of its command; a refusal has a number up to 7, at the command's place
 abbrev BytesSay : List ℕ → ℕ → Reading → Type 0
-BytesSay list at = Says command_bytes (λ r. (1 ≤ r.number) × (r.place ≡ at) × (r.number ≤ 7)) list at
+BytesSay list at = Says command_bytes (λ r. (1 ≤ number_of r.reason) × (r.place ≡ at) × (number_of r.reason ≤ 7)) list at
 
 -- a command whose operands are not cut short
 fits_say :
     (list : List ℕ) (at n : ℕ) (c : Command) → (at + n ≤ length list → CommandSpelt list at c (at + n)) →
-    BytesSay list at (pick (leb (at + n) (length list)) (found c (at + n)) (refused 7 at))
+    BytesSay list at (pick (leb (at + n) (length list)) (found c (at + n)) (refused Reason·.OperandsCut at))
 unfolding Says found refused
 fits_say list at n c spelt =
     by_test (leb (at + n) (length list)) (λ on. rw on (spelt (leb-true (at + n) (length list) on))) (λ off. rw off (omega arith))
@@ -210,6 +212,6 @@ module _ (list : List ℕ) (bytes : (i : ℕ) → get_or list i 0 < 256) (at : �
 
   -- what cannot be read is refused with a number up to 7, at its first byte
   pub command-refused :
-      (r : Refusal) → read_command list at ≡ Reading·.Refused r → (1 ≤ r.number) × (r.place ≡ at) × (r.number ≤ 7)
+      (r : Refusal) → read_command list at ≡ Err r → (1 ≤ number_of r.reason) × (r.place ≡ at) × (number_of r.reason ≤ 7)
   unfolding Says
   command-refused r e = subst (BytesSay list at) e command-says

@@ -1,5 +1,5 @@
 -- A header's and a command's line read back, both ways.
-use Rattle.std.specs.Prelude.{ℕ, ◌+◌, ◌*◌, ◌<◌, ◌≤◌, true, false, List, [], ◌++◌, ◌≡◌, refl, length, drop, get_or}
+use Rattle.std.specs.Prelude.{ℕ, ◌+◌, ◌*◌, ◌<◌, ◌≤◌, true, false, List, [], ◌++◌, ◌≡◌, refl, length, drop, get_or, Option, Some, None}
 use Prim.Native.String.{String}
 use Rattle.std.proofs.Common.{append_assoc, ap, subst, ◌∙◌, arith, length-append, length-drop}
 use Rattle.choice.specs.laws.Cases.{by_test}
@@ -7,22 +7,19 @@ use Rattle.text.specs.Text.{text, decimal, named}
 use Rattle.text.specs.laws.DecimalLaws.{decimal-below}
 use Rattle.text.specs.laws.DigitLaws.{decimal-some}
 use Rattle.scan.specs.declared.Number.{Number}
-use Rattle.scan.specs.declared.Numeral.{Numeral}
-use Rattle.scan.specs.declared.Numeral.TheVariants as Numeral·
 use Rattle.scan.specs.Scan.{begins_with, word_at, is_digit, number, number_at, named_at}
 use Rattle.scan.specs.laws.ReadBack.{word_reads, word_spelt, word_left, named-reads, NamedSpelt, named_spelt}
 use Rattle.command.specs.declared.Target.{Target}
 use Rattle.command.specs.declared.Delivery.{Delivery}
 use Rattle.command.specs.declared.Command.{Command}
 use Rattle.command.specs.declared.Command.TheVariants as Command·
-use Rattle.command.specs.declared.Refusal.{Refusal}
-use Rattle.command.specs.declared.Reading.{Reading}
-use Rattle.command.specs.declared.Reading.TheVariants as Reading·
+use Rattle.refusals.specs.declared.Reason.TheVariants as Reason·
+use Rattle.refusals.specs.declared.Refusal.{Refusal}
+use Rattle.command.specs.Readings.{Reading}
+use Rattle.std.specs.Prelude.{Err}
 use Rattle.command.specs.Commands.{found, refused}
 use Rattle.header.specs.declared.Header.{Header}
 use Rattle.spelling.specs.declared.HeaderLine.{HeaderLine}
-use Rattle.spelling.specs.declared.HeaderReading.{HeaderReading}
-use Rattle.spelling.specs.declared.HeaderReading.TheVariants as HeaderReading·
 use Rattle.spelling.specs.Spelling.{header_line, command_line, command_bytes}
 use Rattle.spelling.specs.LineReading.{bad_line, end_line, site_end, row_end, read_line, header_numbers, read_header_line}
 use Rattle.spelling.specs.Ranges.{HeaderInRange, InRange}
@@ -70,7 +67,7 @@ header_line-longer h =
 name_reads :
     (word : String) (limit x : ℕ) (s : List ℕ) (at : ℕ) (t : List ℕ) → x ≤ limit → x < 100000 →
     drop at s ≡ named word x ++ t → is_digit (get_or t 0 0) ≡ false →
-    named_at (text word) limit s at ≡ Numeral·.Found (number x (at + length (named word x)))
+    named_at (text word) limit s at ≡ Some (number x (at + length (named word x)))
 unfolding named
 name_reads word limit x s at t low high e end = named-reads (text word) limit x s at t low high e end
 
@@ -159,7 +156,7 @@ word_stands : (w s : List ℕ) (at : ℕ) → word_at w s at ≡ true → Stands
 word_stands w s at e = record { left = word_spelt w s at e; next-is = refl }
 
 name_stands :
-    (word : String) (limit : ℕ) (s : List ℕ) (at : ℕ) (n : Number) → named_at (text word) limit s at ≡ Numeral·.Found n →
+    (word : String) (limit : ℕ) (s : List ℕ) (at : ℕ) (n : Number) → named_at (text word) limit s at ≡ Some n →
     Stands s at (named word n.value) n.next
 unfolding named
 name_stands word limit s at n e =
@@ -174,9 +171,9 @@ stands_on {p = p} {q = q} a b =
 
 -- the number at a place is one or is missing
 by_numeral {ℓ} :
-    {P : Type ℓ} (k : Numeral) → (k ≡ Numeral·.Missing → P) → ((n : Number) → k ≡ Numeral·.Found n → P) → P
-by_numeral Numeral·.Missing f g = f refl
-by_numeral (Numeral·.Found n) f g = g n refl
+    {P : Type ℓ} (k : Option Number) → (k ≡ None → P) → ((n : Number) → k ≡ Some n → P) → P
+by_numeral None f g = f refl
+by_numeral (Some n) f g = g n refl
 
 -- a line that was read is what the text goes on with
 abbrev pub LineSpelt : List ℕ → ℕ → Command → ℕ → Type 0
@@ -184,7 +181,7 @@ LineSpelt = Spelt command_line
 
 -- an answer says so of its command; a refusal is 19 at the line's place
 abbrev LineSays : List ℕ → ℕ → Reading → Type 0
-LineSays s at = Says command_line (λ r. (r.number ≡ 19) × (r.place ≡ at)) s at
+LineSays s at = Says command_line (λ r. (r.reason ≡ Reason·.BadLine) × (r.place ≡ at)) s at
 
 bad_says : (s : List ℕ) (at : ℕ) → LineSays s at (bad_line at)
 unfolding Says bad_line refused
@@ -273,7 +270,7 @@ line_spelt s at c next inside e = subst (LineSays s at) e (line_says s at)
 
 -- a line that is not in its form is refused with 19 at its first byte
 pub line_refused :
-    (s : List ℕ) (at : ℕ) (r : Refusal) → read_line s at ≡ Reading·.Refused r → (r.number ≡ 19) × (r.place ≡ at)
+    (s : List ℕ) (at : ℕ) (r : Refusal) → read_line s at ≡ Err r → (r.reason ≡ Reason·.BadLine) × (r.place ≡ at)
 unfolding Says
 line_refused s at r e = subst (LineSays s at) e (line_says s at)
 
@@ -284,7 +281,7 @@ five a b c d e t = simp append_assoc
 -- the header's line that a text begins with is read as its header
 pub header_line-reads :
     (s : List ℕ) (h : Header) (t : List ℕ) → HeaderInRange h → s ≡ header_line h ++ t →
-    read_header_line s ≡ HeaderReading·.Found (record { header = h; next = length (header_line h) })
+    read_header_line s ≡ Some (record { header = h; next = length (header_line h) })
 unfolding read_header_line header_line header_numbers number text named is_digit
 header_line-reads s h t ok e =
     let n : List ℕ = named "sites " h.n in
@@ -317,13 +314,13 @@ pub record HeaderLineSpelt (s : List ℕ) (l : HeaderLine) : Type 0 where
   pub inside : l.next ≤ length s
 
 -- an answer says so of its header
-HeaderSays : List ℕ → HeaderReading → Type 0
-HeaderSays s HeaderReading·.Missing = Unit
-HeaderSays s (HeaderReading·.Found l) = HeaderLineSpelt s l
+HeaderSays : List ℕ → Option HeaderLine → Type 0
+HeaderSays s None = Unit
+HeaderSays s (Some l) = HeaderLineSpelt s l
 
 header-found :
     (s : List ℕ) (l : HeaderLine) → HeaderInRange l.header → Stands s 0 (header_line l.header) l.next →
-    HeaderSays s (HeaderReading·.Found l)
+    HeaderSays s (Some l)
 unfolding HeaderSays
 header-found s l ok r =
     record {
@@ -336,11 +333,11 @@ header-found s l ok r =
 
 -- four numbers after their words, and the line feed
 numbers_say :
-    (s : List ℕ) (n c a w : Number) → named_at (text "sites ") 255 s 0 ≡ Numeral·.Found n →
-    named_at (text " commit ") 255 s n.next ≡ Numeral·.Found c →
-    named_at (text " abort ") 255 s c.next ≡ Numeral·.Found a →
-    named_at (text " willing ") 65535 s a.next ≡ Numeral·.Found w → word_at (text "\n") s w.next ≡ true →
-    HeaderSays s (HeaderReading·.Found (header_numbers n c a w))
+    (s : List ℕ) (n c a w : Number) → named_at (text "sites ") 255 s 0 ≡ Some n →
+    named_at (text " commit ") 255 s n.next ≡ Some c →
+    named_at (text " abort ") 255 s c.next ≡ Some a →
+    named_at (text " willing ") 65535 s a.next ≡ Some w → word_at (text "\n") s w.next ≡ true →
+    HeaderSays s (Some (header_numbers n c a w))
 unfolding header_numbers header_line text
 numbers_say s n c a w e₁ e₂ e₃ e₄ on =
     header-found s (header_numbers n c a w)
@@ -370,6 +367,6 @@ header-says s =
     (λ on. rw on (numbers_say s n c a w e₁ e₂ e₃ e₄ on)) (λ off. rw off tt)))))
 
 -- a header that is read has its line there
-pub header_line_spelt : (s : List ℕ) (l : HeaderLine) → read_header_line s ≡ HeaderReading·.Found l → HeaderLineSpelt s l
+pub header_line_spelt : (s : List ℕ) (l : HeaderLine) → read_header_line s ≡ Some l → HeaderLineSpelt s l
 unfolding HeaderSays
 header_line_spelt s l e = subst (HeaderSays s) e (header-says s)

@@ -5,12 +5,15 @@ use Rattle.std.proofs.Common.{sym, ◌∙◌}
 use native.Mathlib.Omega.{arith}
 use Rattle.std.proofs.Math.ListN.{length, length-append}
 use Rattle.std.proofs.lemmas.List.Edits.{sets}
+use Rattle.text.specs.declared.Page.{Page}
+use Rattle.text.specs.Page.{Put}
 use Rattle.text.specs.laws.Written.{Written, sets_join, written-length}
 use Rattle.command.specs.declared.Command.{Command}
 use Rattle.command.specs.declared.Parsed.{Parsed}
-use Rattle.command.specs.declared.Refusal.{Refusal}
-use Rattle.command.specs.declared.Reading.{Reading}
-use Rattle.command.specs.declared.Reading.TheVariants as Reading·
+use Rattle.refusals.specs.Refusals.{number_of}
+use Rattle.refusals.specs.declared.Refusal.{Refusal}
+use Rattle.command.specs.Readings.{Reading}
+use Rattle.std.specs.Prelude.{Ok, Err}
 use Rattle.spelling.specs.Script.{Script, stop, first, script_from, spelled_by}
 use Rattle.spelling.specs.laws.ScriptLaws.{Forward, rest, rest_end, rest-refused, rest-found, whole-rest}
 
@@ -36,11 +39,11 @@ module _ (spell : Command → List ℕ) (read : ℕ → Reading) (end : ℕ) (fo
   unfolding left stop spelled_by
   left_end at h = rw (rest_end read end forward at h)
 
-  pub left-refused : (at : ℕ) (r : Refusal) → at < end → read at ≡ Reading·.Refused r → left spell read end at ≡ []
+  pub left-refused : (at : ℕ) (r : Refusal) → at < end → read at ≡ Err r → left spell read end at ≡ []
   unfolding left stop spelled_by
   left-refused at r h e = rw (rest-refused read end forward at r h e)
 
-  pub left-found : (at : ℕ) (p : Parsed) → at < end → read at ≡ Reading·.Found p →
+  pub left-found : (at : ℕ) (p : Parsed) → at < end → read at ≡ Ok p →
       left spell read end at ≡ spell p.command ++ left spell read end p.next
   unfolding left first spelled_by
   left-found at p h e = rw (rest-found read end forward at p h e)
@@ -58,7 +61,7 @@ module _ (spell : Command → List ℕ) (read : ℕ → Reading) (end : ℕ) (fo
 
   module _ (whole : Script) (total at measured : ℕ) (m : Measuring spell read end whole total at measured) where
     -- a command more
-    pub measuring-on : (p : Parsed) → at < end → read at ≡ Reading·.Found p →
+    pub measuring-on : (p : Parsed) → at < end → read at ≡ Ok p →
         Measuring spell read end whole total p.next (measured + length (spell p.command))
     unfolding first
     measuring-on p h e =
@@ -71,7 +74,7 @@ module _ (spell : Command → List ℕ) (read : ℕ → Reading) (end : ℕ) (fo
         }
 
     -- a refusal is the script's
-    pub measuring-refused : (r : Refusal) → at < end → read at ≡ Reading·.Refused r → (whole.number ≡ r.number) × (whole.place ≡ r.place)
+    pub measuring-refused : (r : Refusal) → at < end → read at ≡ Err r → (whole.number ≡ number_of r.reason) × (whole.place ≡ r.place)
     unfolding stop
     measuring-refused r h e = (
       m.number-left ∙ ap (λ s. s.number) (rest-refused read end forward at r h e),
@@ -95,7 +98,7 @@ module _ (spell : Command → List ℕ) (read : ℕ → Reading) (end : ℕ) (fo
 
   module _ (out before : List ℕ) (from : ℕ) (now : List ℕ) (at next : ℕ) (p : Putting spell read end out before from now at next) where
     -- a command more
-    pub putting-on : (k : Parsed) (after : List ℕ) (then : ℕ) → at < end → read at ≡ Reading·.Found k →
+    pub putting-on : (k : Parsed) (after : List ℕ) (then : ℕ) → at < end → read at ≡ Ok k →
         Written now next (spell k.command) after then → Putting spell read end out before from after k.next then
     putting-on k after then h e w =
         record {
@@ -108,7 +111,7 @@ module _ (spell : Command → List ℕ) (read : ℕ → Reading) (end : ℕ) (fo
         }
 
     -- it has room
-    pub putting-room : (k : Parsed) → at < end → read at ≡ Reading·.Found k → from + length out ≤ length before →
+    pub putting-room : (k : Parsed) → at < end → read at ≡ Ok k → from + length out ≤ length before →
         next + length (spell k.command) ≤ length now
     putting-room k h e room =
         omega (arith, p.room-left, p.same_length, ap length (left-found at k h e), length-append (spell k.command) (left spell read end k.next))
@@ -121,8 +124,19 @@ module _ (spell : Command → List ℕ) (read : ℕ → Reading) (end : ℕ) (fo
           ends = omega (arith, p.room-left, ap length e);
         }
 
--- after a piece that was put from the beginning there is room for the other, if there was for both
-pub room_after : {before now : List ℕ} {next : ℕ} {head : List ℕ} (others : List ℕ) → Written before 0 head now next →
-    length (head ++ others) ≤ length before → next + length others ≤ length now
-room_after {before} {now} {next} {head} others w room =
-    omega (arith, w.ends, written-length w, length-append head others)
+  -- the same of a page
+  pub putting-page :
+      {p q : Page} (out : List ℕ) (at : ℕ) → Putting spell read end out p.buffer.now p.at q.buffer.now at q.at →
+      q.buffer.ghost_name ≡ p.buffer.ghost_name → left spell read end at ≡ [] → Put p out q
+  putting-page {p} {q} out at m same e =
+      record {
+        same = same;
+        written = putting-ends out p.buffer.now p.at q.buffer.now at q.at m e;
+        length-is = m.same_length;
+      }
+
+-- after a piece that was put there is room for the other, if there was for both
+pub room_after :
+    {p q : Page} {head : List ℕ} (others : List ℕ) → Put p head q → p.at + length (head ++ others) ≤ length p.buffer.now →
+    q.at + length others ≤ length q.buffer.now
+room_after {head = head} others w room = omega (arith, w.written.ends, w.length-is, length-append head others)

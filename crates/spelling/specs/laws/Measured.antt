@@ -4,18 +4,19 @@ use native.Mathlib.Omega.{arith}
 use borrow.Author.Tests.{eq-eqb, ne_eqb, eqb-true, eqb-false}
 use Rattle.choice.specs.Choice.{pick}
 use Rattle.choice.specs.laws.Cases.{by_test}
-use Rattle.command.specs.declared.Refusal.{Refusal}
-use Rattle.spelling.specs.declared.Spelled.{Spelled}
+use Rattle.refusals.specs.Refusals.{number_of}
+use Rattle.refusals.specs.declared.Refusal.{Refusal}
+use Rattle.spelling.specs.Answers.{Answer}
 use Rattle.spelling.specs.Script.{Script}
 
-unfoldable pub measured_by : Script → ℕ → ℕ → Spelled
+unfoldable pub measured_by : Script → ℕ → ℕ → Answer
 measured_by s place total =
     pick (eqb s.number 0) (record { number = 0; place = place; length = total })
     (record { number = s.number; place = s.place; length = 0 })
 
 module _ (s : Script) (place total : ℕ) where
-  pub measured-refused : (r : Refusal) → 1 ≤ r.number → (s.number ≡ r.number) × (s.place ≡ r.place) →
-      record { number = r.number; place = r.place; length = 0 } ≡ measured_by s place total
+  pub measured-refused : (r : Refusal) → 1 ≤ number_of r.reason → (s.number ≡ number_of r.reason) × (s.place ≡ r.place) →
+      record { number = number_of r.reason; place = r.place; length = 0 } ≡ measured_by s place total
   unfolding measured_by
   measured-refused r some same = rw (ne_eqb s.number 0 (λ z. never z same.0 some), same.0, same.1)
     where

@@ -6,14 +6,15 @@ use Rattle.std.proofs.Math.Path.{refl, ap}
 use Rattle.choice.specs.laws.Cases.{by_test}
 use Rattle.command.specs.declared.Command.{Command}
 use Rattle.command.specs.declared.Parsed.{Parsed}
-use Rattle.command.specs.declared.Refusal.{Refusal}
-use Rattle.command.specs.declared.Reading.{Reading}
-use Rattle.command.specs.declared.Reading.TheVariants as Reading·
+use Rattle.refusals.specs.Refusals.{number_of}
+use Rattle.refusals.specs.declared.Refusal.{Refusal}
+use Rattle.command.specs.Readings.{Reading}
+use Rattle.std.specs.Prelude.{Ok, Err}
 use Rattle.spelling.specs.Script.{Script, stop, first, read_on, script_from, spelled_by}
 
 -- a reading goes forward
 abbrev pub Forward : (ℕ → Reading) → ℕ → Type 0
-Forward read end = (at : ℕ) (p : Parsed) → at < end → read at ≡ Reading·.Found p → at < p.next
+Forward read end = (at : ℕ) (p : Parsed) → at < end → read at ≡ Ok p → at < p.next
 
 -- the commands that are left at a place
 unfoldable pub rest : (ℕ → Reading) → ℕ → ℕ → Script
@@ -32,11 +33,11 @@ module _ (read : ℕ → Reading) (end : ℕ) where
   unfolding script_from
   step fuel at h = rw (lt-ltb at end h)
 
-  pub step-refused : (fuel at : ℕ) (r : Refusal) → at < end → read at ≡ Reading·.Refused r →
-      script_from (suc fuel) read end at ≡ stop r.number r.place
+  pub step-refused : (fuel at : ℕ) (r : Refusal) → at < end → read at ≡ Err r →
+      script_from (suc fuel) read end at ≡ stop (number_of r.reason) r.place
   step-refused fuel at r h e = step fuel at h ∙ rw e
 
-  pub step-found : (fuel at : ℕ) (p : Parsed) → at < end → read at ≡ Reading·.Found p →
+  pub step-found : (fuel at : ℕ) (p : Parsed) → at < end → read at ≡ Ok p →
       script_from (suc fuel) read end at ≡ first p.command (script_from fuel read end p.next)
   step-found fuel at p h e = step fuel at h ∙ rw e
 
@@ -53,8 +54,8 @@ module _ (read : ℕ → Reading) (end : ℕ) where
       inside :
           ((next : ℕ) → end - next ≤ f → end - next ≤ g → script_from f read end next ≡ script_from g read end next) →
           at < end → (x : Reading) → read at ≡ x → script_from (suc f) read end at ≡ script_from (suc g) read end at
-      inside others h (Reading·.Refused r) e = step-refused f at r h e ∙ sym (step-refused g at r h e)
-      inside others h (Reading·.Found k) e =
+      inside others h (Err r) e = step-refused f at r h e ∙ sym (step-refused g at r h e)
+      inside others h (Ok k) e =
           step-found f at k h e
           ∙ ap (λ s. first k.command s)
           (others k.next (omega (arith, forward at k h e)) (omega (arith, forward at k h e)))
@@ -62,8 +63,8 @@ module _ (read : ℕ → Reading) (end : ℕ) where
 
   -- a script ends inside, where every reading does
   pub script_inside :
-      ((at : ℕ) (r : Refusal) → at < end → read at ≡ Reading·.Refused r → r.place ≤ end) →
-      ((at : ℕ) (p : Parsed) → at < end → read at ≡ Reading·.Found p → p.next ≤ end) →
+      ((at : ℕ) (r : Refusal) → at < end → read at ≡ Err r → r.place ≤ end) →
+      ((at : ℕ) (p : Parsed) → at < end → read at ≡ Ok p → p.next ≤ end) →
       (fuel at : ℕ) → at ≤ end → (script_from fuel read end at).place ≤ end
   unfolding stop first script_from
   script_inside refusing finding zero at h = h
@@ -75,8 +76,8 @@ module _ (read : ℕ → Reading) (end : ℕ) where
       by-reading :
           ((next : ℕ) → next ≤ end → (script_from fuel read end next).place ≤ end) → at < end → (x : Reading) → read at ≡ x →
           (script_from (suc fuel) read end at).place ≤ end
-      by-reading others q (Reading·.Refused r) e = rw (step-refused fuel at r q e) (refusing at r q e)
-      by-reading others q (Reading·.Found p) e = rw (step-found fuel at p q e) (others p.next (finding at p q e))
+      by-reading others q (Err r) e = rw (step-refused fuel at r q e) (refusing at r q e)
+      by-reading others q (Ok p) e = rw (step-found fuel at p q e) (others p.next (finding at p q e))
 
   module _ (forward : Forward read end) where
     -- what is left at a place, by what is read there
@@ -84,13 +85,13 @@ module _ (read : ℕ → Reading) (end : ℕ) where
     unfolding rest
     rest_end at h = none_left (end - at) at h
 
-    pub rest-refused : (at : ℕ) (r : Refusal) → at < end → read at ≡ Reading·.Refused r →
-        rest read end at ≡ stop r.number r.place
+    pub rest-refused : (at : ℕ) (r : Refusal) → at < end → read at ≡ Err r →
+        rest read end at ≡ stop (number_of r.reason) r.place
     unfolding rest
     rest-refused at r h e =
         enough forward (end - at) (suc (end - at)) at (omega arith) (omega arith) ∙ step-refused (end - at) at r h e
 
-    pub rest-found : (at : ℕ) (p : Parsed) → at < end → read at ≡ Reading·.Found p →
+    pub rest-found : (at : ℕ) (p : Parsed) → at < end → read at ≡ Ok p →
         rest read end at ≡ first p.command (rest read end p.next)
     unfolding rest
     rest-found at p h e =

@@ -1,9 +1,9 @@
 -- What a reading says of a text or a list at a place, in whichever spelling.
 use Rattle.std.specs.Prelude.{ℕ, ◌+◌, ◌≤◌, List, ◌++◌, ◌≡◌, length, drop}
 use Rattle.command.specs.declared.Command.{Command}
-use Rattle.command.specs.declared.Refusal.{Refusal}
-use Rattle.command.specs.declared.Reading.{Reading}
-use Rattle.command.specs.declared.Reading.TheVariants as Reading·
+use Rattle.refusals.specs.declared.Refusal.{Refusal}
+use Rattle.command.specs.Readings.{Reading}
+use Rattle.std.specs.Prelude.{Ok, Err}
 use Rattle.spelling.specs.Ranges.{InRange}
 
 -- a command that was read there: what is left begins with it, and the next place is the one after it
@@ -15,5 +15,5 @@ pub record Spelt (spell : Command → List ℕ) (s : List ℕ) (at : ℕ) (c : C
 
 -- an answer: its command is spelt there, or its refusal is such a one
 unfoldable pub Says : (Command → List ℕ) → (Refusal → Type 0) → List ℕ → ℕ → Reading → Type 0
-Says spell refuses s at (Reading·.Refused r) = refuses r
-Says spell refuses s at (Reading·.Found p) = Spelt spell s at p.command p.next
+Says spell refuses s at (Err r) = refuses r
+Says spell refuses s at (Ok p) = Spelt spell s at p.command p.next

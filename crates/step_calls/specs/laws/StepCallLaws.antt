@@ -8,8 +8,7 @@ use Rattle.row.specs.Rows.{put_row_at}
 use Rattle.layout.specs.Layout.{put_site, site_at, site_in_layout}
 use Rattle.site.specs.declared.Site.{Site}
 use Rattle.member.specs.declared.Member.{Member}
-use Rattle.member.specs.declared.Taken.{Taken}
-use Rattle.member.specs.Steps.{site_step, taken_of}
+use Rattle.member.specs.Steps.{Handed, site_step, taken_of}
 use Rattle.step_calls.specs.StepCalls.{
   site_bytes,
   row_bytes,
@@ -25,7 +24,7 @@ use Rattle.step_calls.specs.StepCalls.{
 }
 
 -- what an accepted step leaves
-unfoldable pub accepted_left : Taken → List ℕ → List ℕ → List ℕ → StepLeft
+unfoldable pub accepted_left : Handed → List ℕ → List ℕ → List ℕ → StepLeft
 accepted_left t site row result =
     record {
       number = 0;
@@ -73,7 +72,7 @@ call_unfit terms site command row result e = pick_off (step_fits terms site row 
 
 -- a step of the member and the site that the bytes hold
 module _
-    (terms site command row result : List ℕ) (fits : step_fits terms site row result ≡ true) (m : Member) (s : Site) (t : Taken)
+    (terms site command row result : List ℕ) (fits : step_fits terms site row result ≡ true) (m : Member) (s : Site) (t : Handed)
     (told : m ≡ member_at terms) (held : s ≡ site_at site 0) (taken : t ≡ taken_of (site_step m s command)) where
   held_step : t ≡ taken_of (site_step (member_at terms) (site_at site 0) command)
   held_step =

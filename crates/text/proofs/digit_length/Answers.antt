@@ -1,10 +1,15 @@
 use native.Mathlib.Omega.{arith}
-use mathlib.Core.Path.{sym}
-use Rattle.text.specs.laws.DecimalLaws.{no_digit, a_digit}
+use mathlib.Core.Path.{◌≡◌, ap, sym, ◌∙◌}
+use mir.Val.{bool_byte}
+use Rattle.std.proofs.Common.{le-leb}
+use Rattle.std.proofs.lemmas.Bool.{lt-leb}
+use Rattle.text.specs.laws.DecimalLaws.{by_unit, no_digit, a_digit}
 use Rattle.text.proofs.digit_length.Goals as goal
 
-pub returns-then-unit-x : goal.returns-then-unit-x
-returns-then-unit-x c = (sym (a_digit _ _ c.if-unit-x.true), omega arith)
-
 pub returns : goal.returns
-returns c = (sym (no_digit _ _ (omega arith)), omega arith)
+returns c =
+    by_unit c.args.unit c.args.x
+    (λ h. let e : c.from.result ≡ 1 = c.from.ensures ∙ ap bool_byte (le-leb c.args.unit c.args.x h) in
+    (e ∙ sym (a_digit c.args.unit c.args.x h), omega arith))
+    (λ h. let e : c.from.result ≡ 0 = c.from.ensures ∙ ap bool_byte (lt-leb c.args.unit c.args.x h) in
+    (e ∙ sym (no_digit c.args.unit c.args.x h), omega arith))

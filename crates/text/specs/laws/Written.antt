@@ -1,6 +1,7 @@
 -- What a piece of text written to a buffer leaves, and the laws by which pieces join.
-use Rattle.std.specs.Prelude.{ℕ, zero, suc, ◌+◌, ◌<◌, ◌≤◌, List, [], ◌∷◌, ◌++◌, ◌≡◌, refl, length, get_or, take, drop, set}
-use Rattle.std.proofs.Common.{ap, ◌∙◌, add-one, arith, length-append, take_all}
+use Rattle.std.specs.Prelude.{ℕ, suc, ◌+◌, ◌-◌, ◌≤◌, List, [], ◌∷◌, ◌++◌, ◌≡◌, refl, length, take, drop, set}
+use Rattle.std.proofs.Common.{sym, ap, ◌∙◌, arith, append_assoc, length-append, drop-drop}
+use borrow.Rule.Slice.PartMut.{put_mid}
 use Rattle.std.proofs.lemmas.List.Edits.{sets, sets-eq}
 use Rattle.std.proofs.Math.Seq.{length-sets, take-append_seam}
 
@@ -34,25 +35,16 @@ nothing b at = record { holds = refl; ends = omega arith }
 pub one_byte : (b : List ℕ) (at x : ℕ) → Written b at (x ∷ []) (set b at x) (at + 1)
 one_byte b at x = record { holds = refl; ends = omega arith }
 
--- one byte more of a word
-pub one_more :
-    (b : List ℕ) (at : ℕ) (w : List ℕ) (k : ℕ) → k < length w → sets b at (take (suc k) w) ≡ set (sets b at (take k w)) (at + k) (get_or w k 0)
-one_more b at [] k h = absurd (omega arith)
-one_more b at (a ∷ w) zero h = let e : at + 0 ≡ at = omega arith in rw e
-one_more b at (a ∷ w) (suc k) h =
-    let e : at + suc k ≡ suc at + k = omega arith in rw e (one_more (set b at a) (suc at) w k (omega arith))
-
--- the loop over a word: a byte more, and the whole word
-pub word_more :
-    {m : List ℕ} (b : List ℕ) (at : ℕ) (w : List ℕ) (k : ℕ) → k < length w → m ≡ sets b at (take k w) →
-    set m (at + k) (get_or w k 0) ≡ sets b at (take (k + 1) w)
-word_more b at w k h e = rw (add-one, one_more b at w k h, e)
-
-pub word_whole :
-    {m : List ℕ} (b : List ℕ) (at : ℕ) (w : List ℕ) (k : ℕ) → length w ≤ k → k ≤ length w → m ≡ sets b at (take k w) →
-    Written b at w m (at + k)
-word_whole b at w k h l e =
-    record { holds = e ∙ ap (λ x. sets b at x) (take_all k w h); ends = omega arith }
+-- a word in the place of as many bytes
+pub word_written :
+    (b : List ℕ) (at : ℕ) (w y : List ℕ) → at + length w ≤ length b → y ≡ w →
+    Written b at w (put_mid at (at + length w - at) b y) (at + length w)
+word_written b at w y room same =
+    let k : at + length w - at ≡ length w = omega arith in
+    record {
+      holds = rw (same, k, drop-drop (length w) at b, ← append_assoc) (sym (sets-eq w b at room));
+      ends = refl;
+    }
 
 -- the buffer keeps its length
 pub written-length : {b a : List ℕ} {at n : ℕ} {s : List ℕ} → Written b at s a n → length a ≡ length b

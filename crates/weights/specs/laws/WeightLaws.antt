@@ -1,12 +1,12 @@
 -- Laws of weights.
-use Rattle.std.specs.Prelude.{ℕ, zero, suc, ◌+◌, ◌-◌, ◌*◌, ◌≤◌, ◌<◌, Bool, true, List, ◌≡◌, refl, ltb, leb, eqb, replicate}
-use Rattle.std.proofs.Common.{ap, sym, ◌∙◌, suc-mul, arith, lt-ltb, le-ltb, le-leb, ltb-true, ltb-false, leb-true, eqb-true, eq-eqb}
-use Rattle.std.proofs.lemmas.List.{length-replicate, get_or-replicate}
-use Rattle.choice.specs.Choice.{both}
-use Rattle.choice.specs.Places.{sum_to, all_below, stored_to}
+use Rattle.std.specs.Prelude.{ℕ, zero, suc, ◌+◌, ◌-◌, ◌*◌, ◌≤◌, ◌<◌, true, List, ◌≡◌, refl, ltb, leb, eqb, replicate, length, All, Contains}
+use Rattle.std.proofs.Common.{ap, sym, ◌∙◌, ◌++◌, min, drop, suc-mul, arith, lt-ltb, le-ltb, le-leb, ltb-true, ltb-false, leb-true, eqb-true, eq-eqb}
+use Rattle.std.proofs.lemmas.List.{length-replicate, get_or-replicate, get_or_default}
+use Rattle.choice.specs.Choice.{pick, both}
+use Rattle.choice.specs.Places.{sum_to, stored_to}
 use Rattle.choice.specs.laws.Cases.{by_test, by_equal}
 use Rattle.choice.specs.laws.ChoiceLaws.{pick_ind, both-on, both_first, both-second}
-use Rattle.choice.specs.laws.Stores.{stored_at, stored_else, stored_past, sum_same, sum_cut, sum_times, all-each, all-on}
+use Rattle.choice.specs.laws.Stores.{stored_at, stored_else, stored_past, stored_before, sum_same, sum_least, sum_cut, sum_times, all-each, all-on}
 use Rattle.weights.specs.Weights.{weight_of, total_weight, larger, largest_to, largest_weight, valid_weight, valid_weights, weights_by, even_weights}
 
 -- the larger of two is no more than their sum
@@ -30,6 +30,10 @@ pub above-valid : (n i weight : ℕ) → n ≤ i → valid_weight n i weight ≡
 unfolding valid_weight
 above-valid n i weight h = rw (le-ltb i n h)
 
+pub byte-valid : (n i weight : ℕ) → weight < 256 → pick (ltb i n) (ltb 0 weight) (eqb weight 0) ≡ valid_weight n i weight
+byte-valid n i weight small =
+    by_test (ltb i n) (λ e. rw e (sym (below-valid n i weight (ltb-true i n e) small))) (λ e. rw e (sym (above-valid n i weight (ltb-false i n e))))
+
 -- the weights that are stored
 
 pub weight_listed : (f : ℕ → ℕ) (n i : ℕ) → i < n → i < 16 → weight_of (weights_by f n) i ≡ f i
@@ -44,6 +48,17 @@ weight-past f n i past h = stored_else f n (replicate 16 0) i past ∙ get_or-re
 pub weights-most : (f : ℕ → ℕ) (n : ℕ) → 16 ≤ n → weights_by f 16 ≡ weights_by f n
 unfolding weights_by
 weights-most f n many = sym (stored_past f n (replicate 16 0) (rw (length-replicate {A = ℕ} 16 0) many) ∙ ap (λ k. stored_to f k (replicate 16 0)) (length-replicate {A = ℕ} 16 0))
+
+pub few_weights : (f : ℕ → ℕ) (n : ℕ) → weights_by f (min n 16) ≡ weights_by f n
+few_weights f n = by_test (ltb n 16) (λ e. ap (weights_by f) (omega (arith, ltb-true n 16 e))) (λ e. few (ltb-false n 16 e))
+  where
+    few : 16 ≤ n → weights_by f (min n 16) ≡ weights_by f n
+    few many = let e : min n 16 ≡ 16 = omega arith in rw e (weights-most f n many)
+
+-- ones, and zeros after them
+pub ones_first : (k : ℕ) → k ≤ 16 → replicate k 1 ++ drop k (replicate 16 0) ≡ weights_by (λ _. 1) k
+unfolding weights_by
+ones_first k h = stored_before (λ _. 1) k (replicate 16 0) (replicate k 1) (length-replicate k 1) (λ i l. get_or-replicate k i 1 0 l) h
 
 -- weights that 21 does not refuse, site by site
 pub record Weighed (n : ℕ) (weights : List ℕ) : Type 0 where
@@ -72,6 +87,11 @@ weighing n weights w =
     (le-leb (weight_of weights i) 255 (w.few i (ltb-true i n below) h)))
     (λ past. eq-eqb (weight_of weights i) 0 (w.none i (ltb-false i n past) h))
 
+-- sixteen weights of at most 255
+pub total-most : (weights : List ℕ) → ((i : ℕ) → i < 16 → weight_of weights i ≤ 255) → total_weight weights ≤ 4080
+unfolding total_weight
+total-most weights few = omega (arith, sum_least (weight_of weights) (λ _. 255) 16 few, sum_times 255 16)
+
 -- all weigh what the sites below n weigh
 pub total-below : (n : ℕ) (weights : List ℕ) → n ≤ 16 → Weighed n weights → total_weight weights ≡ sum_to (weight_of weights) n
 unfolding total_weight
@@ -92,6 +112,18 @@ largest-most f zero most each = omega arith
 largest-most f (suc k) most each =
     pick_ind (λ x. x ≤ most) (ltb (largest_to f k) (f k)) (f k) (largest_to f k) (λ _. each k (omega arith))
     (λ _. largest-most f k most (λ i h. each i (omega arith)))
+
+-- so a weight that is as large as each is the largest
+pub largest-of : (weights : List ℕ) (most : ℕ) → length weights ≡ 16 → All (λ x. x ≤ most) weights → Contains weights most → most ≡ largest_weight weights
+unfolding largest_weight weight_of
+largest-of weights most size each one =
+    let e : weight_of weights one.0 ≡ most = get_or_default weights one.0 0 most one.1 ∙ one.2 in
+    omega (
+      arith,
+      e,
+      largest-most (weight_of weights) 16 most (λ j h. each j 0 (omega arith)),
+      largest-each (weight_of weights) 16 one.0 (omega arith),
+    )
 
 -- two numbers are no more than their bound and the larger of them
 larger_bound : (a b most : ℕ) → a ≤ most → b ≤ most → a + b ≤ most + larger a b
@@ -153,16 +185,7 @@ even_largest n some =
           (λ i h. by_test (ltb i n) (λ e. omega (arith, even_one n i (ltb-true i n e) h)) (λ e. omega (arith, (even_weighed n).none i (ltb-false i n e) h))),
     )
 
--- two weightings are the same, place by place
-unfoldable pub same_weights : List ℕ → List ℕ → Bool
-same_weights weights others = all_below (λ i. eqb (weight_of weights i) (weight_of others i)) 16
-
-same-each : (weights others : List ℕ) → same_weights weights others ≡ true → (i : ℕ) → i < 16 → weight_of weights i ≡ weight_of others i
-unfolding same_weights
-same-each weights others e i h =
-    eqb-true (weight_of weights i) (weight_of others i) (all-each (λ j. eqb (weight_of weights j) (weight_of others j)) 16 e i h)
-
--- and then so are their sum, the largest, and whether they are valid
+-- and where weights are these, place by place, so are their sum, the largest, and whether they are valid
 
 largest-same : (f g : ℕ → ℕ) (k : ℕ) → ((i : ℕ) → i < k → f i ≡ g i) → largest_to f k ≡ largest_to g k
 unfolding largest_to
@@ -170,10 +193,7 @@ largest-same f g zero each = refl
 largest-same f g (suc k) each =
     ap (λ x. larger x (f k)) (largest-same f g k (λ i h. each i (omega arith))) ∙ ap (larger (largest_to g k)) (each k (omega arith))
 
-module _ (n : ℕ) (weights : List ℕ) (some : 0 < n) (high : n ≤ 16) (same : same_weights weights (even_weights n) ≡ true) where
-  even_each : (i : ℕ) → i < 16 → weight_of weights i ≡ weight_of (even_weights n) i
-  even_each = same-each weights (even_weights n) same
-
+module _ (n : ℕ) (weights : List ℕ) (some : 0 < n) (high : n ≤ 16) (even_each : (i : ℕ) → i < 16 → weight_of weights i ≡ weight_of (even_weights n) i) where
   pub even_valid : valid_weights n weights ≡ true
   even_valid =
       let w : Weighed n (even_weights n) = even_weighed n in

@@ -1,7 +1,6 @@
 use native.Mathlib.Omega.{arith}
-use Prim.Native.Nat.{◌-◌}
 use mathlib.Core.Path.{sym, ◌∙◌}
-use Rattle.command.specs.Commands.{refusal_of}
+use Rattle.std.proofs.lemmas.Result.{err_from_is_err_and}
 use Rattle.header.specs.laws.HeaderLaws.{first-headed}
 use Rattle.spelling.specs.Spelling.{command_line}
 use Rattle.spelling.specs.laws.BytesBack.{header_in_range, command-refused}
@@ -11,32 +10,34 @@ use Rattle.spelling.specs.laws.LoopLaws.{measuring-on, measuring-refused, measur
 use Rattle.write_lines.proofs.measure.Goals as goal
 
 pub header_line_length-length-requires : goal.header_line_length-length-requires
-header_line_length-length-requires c = rw c.first_header.ensures (header_in_range c.args.list.now (λ i. (c.shared_slice_known-1.given i).fits))
+header_line_length-length-requires c = rw c.requires.0 (header_in_range c.args.list.now (λ i. (c.type_inv.list i).fits))
 
 pub loop-at-init : goal.loop-at-init
-loop-at-init c = (lines_begin c.args.list.now (λ i. (c.shared_slice_known-1.given i).fits) _ (rw c.first_header.ensures at c.header_line_length-length.ensures.0), omega (arith, c.header_line_length-length.ensures.1))
+loop-at-init c = (lines_begin c.args.list.now (λ i. (c.type_inv.list i).fits) _ (rw c.requires.0 at c.header_line_length-length.ensures.0), omega (arith, c.header_line_length-length.ensures.1))
 
-pub returns-in_default : goal.returns-in_default
-unfolding refusal_of measured
-returns-in_default c = c.refused.ensures
-    ∙ rw (c.refusal_of-refusal.ensures, c.in_default.is)
-    (measured-refused _ _ _ _ (command-refused c.args.list.now (λ i. (c.shared_slice_known-1.given i).fits) _ _ (sym c.read_command-reading.ensures.0 ∙ c.in_default.is)).0 (measuring-refused command_line _ _ (list_forward c.args.list.now (λ i. (c.shared_slice_known-1.given i).fits)) _ _ _ _ c.loop-at.invariant.0 _ c.loop-at-test.true (sym c.read_command-reading.ensures.0 ∙ c.in_default.is)))
+pub returns-in_err-parsed : goal.returns-in_err-parsed
+unfolding measured
+returns-in_err-parsed c =
+    let p = err_from_is_err_and c.from_residual.result c.from_residual.ensures.1 in
+    let e = sym c.read_command.ensures.0 ∙ c.in_err-parsed.was in
+    rw (p.1, p.2)
+    (measured-refused _ _ _ _ (command-refused c.args.list.now (λ i. (c.type_inv.list i).fits) _ _ e).0 (measuring-refused command_line _ _ (list_forward c.args.list.now (λ i. (c.type_inv.list i).fits)) _ _ _ _ c.loop-at.invariant.0 _ c.loop-at-test.true e))
 
 pub line_length-length-requires : goal.line_length-length-requires
-line_length-length-requires c = (command-at c.args.list.now (λ i. (c.shared_slice_known-1.given i).fits) _ _ (sym c.read_command-reading.ensures.0 ∙ c.in-Found.is)).in_range
+line_length-length-requires c = (command-at c.args.list.now (λ i. (c.type_inv.list i).fits) _ _ (sym c.read_command.ensures.0 ∙ c.in_ok-parsed.was)).in_range
 
 pub overflow_add-length : goal.overflow_add-length
-overflow_add-length c = omega (arith, (first-headed c.args.list.now c.requires).small, c.loop-at.invariant.1, c.loop-at-test.true, c.line_length-length.ensures.1)
+overflow_add-length c = omega (arith, (first-headed c.args.list.now c.requires.1).small, c.loop-at.invariant.1, c.loop-at-test.true, c.line_length-length.ensures.1)
 
 pub loop-at-smaller : goal.loop-at-smaller
-loop-at-smaller c = omega (arith, (list_forward c.args.list.now (λ i. (c.shared_slice_known-1.given i).fits)) _ _ c.loop-at-test.true (sym c.read_command-reading.ensures.0 ∙ c.in-Found.is))
+loop-at-smaller c = omega (arith, (list_forward c.args.list.now (λ i. (c.type_inv.list i).fits)) _ _ c.loop-at-test.true (sym c.read_command.ensures.0 ∙ c.in_ok-parsed.was))
 
 pub loop-at-preserved : goal.loop-at-preserved
 loop-at-preserved c = (
-  rw c.line_length-length.ensures.0 (measuring-on command_line _ _ (list_forward c.args.list.now (λ i. (c.shared_slice_known-1.given i).fits)) _ _ _ _ c.loop-at.invariant.0 _ c.loop-at-test.true (sym c.read_command-reading.ensures.0 ∙ c.in-Found.is)),
-  omega (arith, c.loop-at.invariant.1, c.line_length-length.ensures.1, (list_forward c.args.list.now (λ i. (c.shared_slice_known-1.given i).fits)) _ _ c.loop-at-test.true (sym c.read_command-reading.ensures.0 ∙ c.in-Found.is)),
+  rw c.line_length-length.ensures.0 (measuring-on command_line _ _ (list_forward c.args.list.now (λ i. (c.type_inv.list i).fits)) _ _ _ _ c.loop-at.invariant.0 _ c.loop-at-test.true (sym c.read_command.ensures.0 ∙ c.in_ok-parsed.was)),
+  omega (arith, c.loop-at.invariant.1, c.line_length-length.ensures.1, (list_forward c.args.list.now (λ i. (c.type_inv.list i).fits)) _ _ c.loop-at-test.true (sym c.read_command.ensures.0 ∙ c.in_ok-parsed.was)),
 )
 
 pub returns : goal.returns
 unfolding measured
-returns c = measured-whole _ _ _ _ (measuring-ends command_line _ _ (list_forward c.args.list.now (λ i. (c.shared_slice_known-1.given i).fits)) _ _ _ _ c.loop-at.invariant.0 c.loop-at-test.false)
+returns c = measured-whole _ _ _ _ (measuring-ends command_line _ _ (list_forward c.args.list.now (λ i. (c.type_inv.list i).fits)) _ _ _ _ c.loop-at.invariant.0 c.loop-at-test.false)

@@ -6,11 +6,11 @@ use borrow.Author.Tests.{lt-ltb, le-ltb, eq-eqb, ne_eqb}
 use Rattle.choice.specs.laws.Cases.{by_test, by_equal}
 use Rattle.text.specs.laws.Written.{Written}
 use Rattle.command.specs.declared.Parsed.{Parsed}
-use Rattle.command.specs.declared.Reading.TheVariants as Reading·
+use Rattle.std.specs.Prelude.{Ok}
 use Rattle.command.specs.Commands.{found, read_command}
 use Rattle.header.specs.Headers.{first_header, first_number}
 use Rattle.header.specs.laws.HeaderLaws.{first-headed}
-use Rattle.spelling.specs.declared.Spelled.{Spelled}
+use Rattle.spelling.specs.Answers.{Answer}
 use Rattle.spelling.specs.Spelling.{header_line, command_line, command_bytes}
 use Rattle.spelling.specs.Script.{spelled_by}
 use Rattle.spelling.specs.WriteRead.{refuse, put_out, list_script, lines_of, write_lines}
@@ -25,12 +25,12 @@ unfoldable pub text_of : List ℕ → List ℕ
 text_of list = lines_of (first_header list) (list_script list).commands
 
 -- what measuring a list gives
-unfoldable pub measured : List ℕ → Spelled
+unfoldable pub measured : List ℕ → Answer
 measured list = measured_by (list_script list) (length list) (length (text_of list))
 
 module _ (list : List ℕ) (bytes : (i : ℕ) → get_or list i 0 < 256) where
   -- a command that is read is in range, and ends further on
-  pub command-at : (at : ℕ) (p : Parsed) → read_command list at ≡ Reading·.Found p → Spelt command_bytes list at p.command p.next
+  pub command-at : (at : ℕ) (p : Parsed) → read_command list at ≡ Ok p → Spelt command_bytes list at p.command p.next
   unfolding found
   command-at at p e = command_spelt list bytes at p.command p.next e
 

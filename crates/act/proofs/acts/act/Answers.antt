@@ -1,36 +1,30 @@
 use native.Mathlib.Omega.{arith}
+use Rattle.std.proofs.Common.{refl}
+use Rattle.play.specs.laws.Changes.{change_of}
 use Rattle.play.specs.laws.CallLaws.{acts_refused, acts_named, acts_unnamed}
-use Rattle.command.specs.Commands.{refusal_of}
 use Rattle.act.proofs.acts.act.Goals as goal
 
--- src/acts.rt:72:24
-
--- src/acts.rt:73:13
-
--- src/acts.rt:73:13
-
--- src/acts.rt:74:9
-
--- src/acts.rt:74:9
-
--- src/acts.rt:77:8
-
--- src/acts.rt:78:9
-
--- src/acts.rt:78:9
-
--- src/acts.rt:78:9
-
--- src/acts.rt:80:5
-
--- src/acts.rt:68:1
-
 pub returns-in_default : goal.returns-in_default
-unfolding refusal_of
-returns-in_default c = acts_refused c.args.reading c.args.head c.args.site c.refused.result c.args.store.now c.args.at _ c.in_default.is (simp (c.refusal_of-refusal.ensures, c.in_default.is) at c.refused.ensures)
+returns-in_default c =
+    let a = c.args in
+    acts_refused a.reading a.head a.site _ a.store.now a.at c.unwrap_err.result c.unwrap_err.ensures refl
 
-pub returns-then-named_site-head : goal.returns-then-named_site-head
-returns-then-named_site-head c = acts_named c.args.reading c.args.head c.args.site c.perform.result c.args.store.now c.args.at _ c.perform.new.store c.in-Found.is (rw c.named_site.ensures at c.if-named_site-head.true) c.perform.ensures
+pub returns-then-head-named_site : goal.returns-then-head-named_site
+returns-then-head-named_site c =
+    let a = c.args in
+    rw c.at.ensures
+    (acts_unnamed a.reading a.head a.site _ a.store.now a.at _ c.in-Ok.is (omega (arith, c.requires.low))
+    (rw c.named_site.ensures at c.if-head-named_site.true) refl)
 
-pub returns : goal.returns
-returns c = acts_unnamed c.args.reading c.args.head c.args.site c.refused-2.result c.args.store.now c.args.at _ c.in-Found.is (omega (arith, c.requires.low)) (rw c.named_site.ensures at c.if-named_site-head.false) c.refused-2.ensures
+pub returns-in-Ok-perform : goal.returns-in-Ok-perform
+returns-in-Ok-perform c =
+    let a = c.args in
+    acts_named a.reading a.head a.site _ a.store.now a.at _ c.perform.new.store c.in-Ok.is
+    (rw c.named_site.ensures at c.if-head-named_site.false) (c.in-Ok-perform.ensures a.at)
+
+pub returns-in-Err : goal.returns-in-Err
+returns-in-Err c =
+    let a = c.args in
+    rw c.at-in-Err.ensures
+    (acts_named a.reading a.head a.site _ a.store.now a.at _ c.perform.new.store c.in-Ok.is
+    (rw c.named_site.ensures at c.if-head-named_site.false) (c.in-Err.ensures a.at))

@@ -1,80 +1,19 @@
-use Rattle.play.specs.Commands.{perform}
-use Rattle.play.specs.laws.Changes.{named_site}
-use borrow.Author.Rules.{rules}
+use Rattle.std.proofs.Common.{sym, ◌∙◌}
+use Rattle.std.proofs.lemmas.Result.{err_from_is_err_and}
+use Rattle.rules.specs.Steps.{stepped}
+use Rattle.play.specs.laws.Changes.{entry_of}
+use Rattle.act.specs.laws.TurnLaws.{turn_refused, turn_taken}
 use Rattle.act.proofs.acts.perform.Goals as goal
 
--- src/acts.rt:59:39
+pub returns-in_err-step : goal.returns-in_err-step
+returns-in_err-step c = λ at.
+    let a = c.args in
+    let p = err_from_is_err_and c.from_residual.result c.from_residual.ensures.1 in
+    rw (p.1, p.2) (turn_refused a.command a.head a.site a.store.now at a.next c.requires.1 _ (sym c.in_err-step.ensures))
 
--- src/acts.rt:59:27
-
--- src/acts.rt:60:26
-
--- src/acts.rt:60:32
-
--- src/acts.rt:61:26
-
--- src/acts.rt:61:32
-
--- src/acts.rt:62:24
-
--- src/acts.rt:62:30
-
--- src/acts.rt:63:26
-
--- src/acts.rt:63:32
-
--- src/acts.rt:47:1
-
--- src/acts.rt:47:1
-
--- src/acts.rt:47:1
-
--- src/acts.rt:47:1
-
--- src/acts.rt:47:1
-
--- src/acts.rt:47:1
-
--- src/acts.rt:47:1
-
--- src/acts.rt:47:1
-
--- src/acts.rt:47:1
-
--- src/acts.rt:47:1
-
-pub deliver-requires : goal.deliver-requires
-unfolding named_site
-deliver-requires c = (search rules, simp c.in-Deliver.is at c.requires.1)
-
-pub timeout-requires : goal.timeout-requires
-unfolding named_site
-timeout-requires c = (search rules, simp c.in-Timeout.is at c.requires.1)
-
-pub crash-requires : goal.crash-requires
-unfolding named_site
-crash-requires c = (search rules, simp c.in-Crash.is at c.requires.1)
-
-pub recover-requires : goal.recover-requires
-unfolding named_site
-recover-requires c = (search rules, simp c.in-Recover.is at c.requires.1)
-
-pub returns-in-Start : goal.returns-in-Start
-unfolding perform named_site
-returns-in-Start c = simp c.in-Start.is c.start.ensures
-
-pub returns-in-Deliver : goal.returns-in-Deliver
-unfolding perform named_site
-returns-in-Deliver c = simp c.in-Deliver.is c.deliver.ensures
-
-pub returns-in-Timeout : goal.returns-in-Timeout
-unfolding perform named_site
-returns-in-Timeout c = simp c.in-Timeout.is c.timeout.ensures
-
-pub returns-in-Crash : goal.returns-in-Crash
-unfolding perform named_site
-returns-in-Crash c = simp c.in-Crash.is c.crash.ensures
-
-pub returns-in-Recover : goal.returns-in-Recover
-unfolding perform named_site
-returns-in-Recover c = simp c.in-Recover.is c.recover.ensures
+pub returns : goal.returns
+returns c = λ at.
+    let a = c.args in
+    turn_taken a.command a.head a.site a.store.now at a.next c.requires.1 (stepped c.in_ok-step.step)
+    (entry_of a.head at a.site c.enter.result) c.enter.new.store (sym c.in_ok-step.ensures)
+    (λ records. c.enter.ensures _ at a.site records)

@@ -1,4 +1,6 @@
 use native.Mathlib.Omega.{arith}
+use mathlib.Core.Path.{refl}
+use Rattle.refusals.specs.laws.RefusalLaws.{number-some}
 use Rattle.layout.proofs.laws.LayoutLaws.{inside-length}
 use Rattle.calls.specs.Calls.{leave}
 use Rattle.calls.specs.laws.CommandLaws.{playable_ready, change_refused, change_accepted}
@@ -16,12 +18,8 @@ site_place-requires c = omega (arith, c.actor-own.ensures.1, (playable_ready _ _
 pub site_at-site-requires : goal.site_at-site-requires
 site_at-site-requires c = omega (arith, c.site_place.ensures.1, c.actor-own.ensures.1, (playable_ready _ _ _ _ c.requires c.head_at-head.ensures).high, inside-length _ c.requires.inside)
 
-pub act-change-requires : goal.act-change-requires
-act-change-requires c = playable_ready _ _ _ _ c.requires c.head_at-head.ensures
-
-pub returns-then-change-ne0 : goal.returns-then-change-ne0
-unfolding leave
-returns-then-change-ne0 c = let e = change_refused c.args.world.now c.args.store.now c.args.list.now c.args.at c.args.res.now c.read_command-reading.result c.head_at-head.result c.actor-own.result c.site_at-site.result c.act-change.result c.act-change.new.store c.requires c.read_command-reading.ensures.0 c.head_at-head.ensures c.actor-own.ensures.0 (omega (arith, c.actor-own.ensures.1, (playable_ready _ _ _ _ c.requires c.head_at-head.ensures).high)) (rw c.site_place.ensures.0 at c.site_at-site.ensures) c.act-change.ensures c.if-change-ne0.true in record { value = rw e c.number_of.ensures; store_after = rw e; world_after = rw e; res_after = rw e }
+pub act-requires : goal.act-requires
+act-requires c = playable_ready _ _ _ _ c.requires c.head_at-head.ensures
 
 pub put_change-requires : goal.put_change-requires
 put_change-requires c = (omega (arith, c.actor-own.ensures.1, (playable_ready _ _ _ _ c.requires c.head_at-head.ensures).high), c.requires.inside, c.requires.bytes)
@@ -29,6 +27,26 @@ put_change-requires c = (omega (arith, c.actor-own.ensures.1, (playable_ready _ 
 pub put_number-requires : goal.put_number-requires
 put_number-requires c = omega (arith, c.requires.eight)
 
-pub returns : goal.returns
+pub returns-in-Ok : goal.returns-in-Ok
 unfolding leave
-returns c = let e = change_accepted c.args.world.now c.args.store.now c.args.list.now c.args.at c.args.res.now c.read_command-reading.result c.head_at-head.result c.actor-own.result c.site_at-site.result c.act-change.result c.act-change.new.store c.requires c.read_command-reading.ensures.0 c.head_at-head.ensures c.actor-own.ensures.0 (omega (arith, c.actor-own.ensures.1, (playable_ready _ _ _ _ c.requires c.head_at-head.ensures).high)) (rw c.site_place.ensures.0 at c.site_at-site.ensures) c.act-change.ensures (omega arith) in record { value = rw e; store_after = rw e; world_after = rw e c.put_change.ensures; res_after = rw e c.put_number.ensures }
+returns-in-Ok c =
+    let a = c.args in
+    let head = c.head_at-head in
+    let e =
+    change_accepted a.world.now a.store.now a.list.now a.at a.res.now c.read_command-reading.result head.result c.actor-own.result
+    c.site_at-site.result _ c.act.new.store c.requires c.read_command-reading.ensures.0 head.ensures c.actor-own.ensures.0
+    (omega (arith, c.actor-own.ensures.1, (playable_ready _ _ _ _ c.requires head.ensures).high))
+    (rw c.site_place.ensures.0 at c.site_at-site.ensures) c.in-Ok.ensures refl in
+    record { value = rw e; store_after = rw e; world_after = rw e c.put_change.ensures; res_after = rw e c.put_number.ensures }
+
+pub returns-in-Err : goal.returns-in-Err
+unfolding leave
+returns-in-Err c =
+    let a = c.args in
+    let head = c.head_at-head in
+    let e =
+    change_refused a.world.now a.store.now a.list.now a.at a.res.now c.read_command-reading.result head.result c.actor-own.result
+    c.site_at-site.result _ c.act.new.store c.requires c.read_command-reading.ensures.0 head.ensures c.actor-own.ensures.0
+    (omega (arith, c.actor-own.ensures.1, (playable_ready _ _ _ _ c.requires head.ensures).high))
+    (rw c.site_place.ensures.0 at c.site_at-site.ensures) c.in-Err.ensures (number-some c.in-Err.refusal.reason) in
+    record { value = rw e c.from.ensures; store_after = rw e; world_after = rw e; res_after = rw e }

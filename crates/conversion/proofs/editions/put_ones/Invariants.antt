@@ -1,11 +1,6 @@
-use Prim.Native.Nat.{◌+◌, ◌-◌, ◌≤◌}
-use mathlib.Core.Path.{◌≡◌}
-use lib.ListN.{length, replicate}
-use Rattle.text.specs.laws.Written.{Written}
+use Rattle.std.proofs.Common.{◌≡◌, ◌+◌, replicate}
+use Rattle.text.specs.Page.{Put}
 use Rattle.conversion.proofs.editions.put_ones.Given as goal
 
-abbrev pub invariant-loop-k : goal.invariant-loop-k
-invariant-loop-k l = (l.k ≤ l.n) × Written l.initial.buffer l.at (replicate l.k 1) l.buffer l.next × (l.next ≡ l.at + l.k) × (length l.buffer ≡ length l.initial.buffer)
-
-abbrev pub decreases-loop-k : goal.decreases-loop-k
-decreases-loop-k l = l.n - l.k
+abbrev pub invariant-loop : goal.invariant-loop
+invariant-loop l = (l.page.at ≡ l.initial.page.at + l.counter) × Put l.initial.page (replicate l.counter 1) l.page

@@ -1,20 +1,18 @@
-use borrow.Author.Rules.{rules}
-use native.Mathlib.Omega.{arith}
-use Prim.Native.Nat.{ℕ, ◌-◌}
-use mathlib.Core.Path.{◌≡◌}
-use Rattle.world.specs.Valid.{valid_sites}
-use Rattle.decode.specs.laws.ValidLaws.{sites_through}
+use Rattle.std.specs.Prelude.{ℕ, Bool, refl}
+use Rattle.std.proofs.Common.{rules, arith}
+use borrow.Author.Tests.{tests}
+use Rattle.std.proofs.lemmas.Iterator.{YieldsList-from_range}
+use Rattle.std.proofs.lemmas.Iterator.Search.{all_from_yields_List}
+use Rattle.choice.specs.laws.EachPlace.{all_numbered}
+use Rattle.world.specs.Valid.{valid_site, valid_sites}
+use Rattle.layout.specs.Layout.{site_place, site_at, world_at}
+use Rattle.decode.specs.laws.ValidLaws.{one_more}
 use Rattle.decode.proofs.valid.valid_sites_at.Goals as goal
 
-pub loop-k-init : goal.loop-k-init
-unfolding valid_sites
-loop-k-init c = (omega arith, search rules)
-
-pub loop-k-preserved : goal.loop-k-preserved
-loop-k-preserved c = (
-  omega arith,
-  sites_through _ _ _ _ _ _ _ (omega arith) c.requires.2 c.site_place.ensures.0 c.site_at-site.ensures c.loop-k.invariant.1 (c.valid_through-valid.ensures _ c.valid_limits-limits.ensures),
-)
-
 pub returns : goal.returns
-returns c = let e : ◌≡◌ {A = ℕ} c.loop-k.k c.args.n = omega arith in cc
+returns c =
+    let b = c.args.bytes.now in
+    let n = c.args.n in
+    let test : ℕ → Bool = λ k. valid_site k n (site_at b (site_place k)) in
+    all_numbered test n (λ k. valid_sites k (world_at b)) _ (unfold valid_sites in refl) (λ k h. one_more b k n (omega (arith, c.requires.0)) c.requires.2)
+    (all_from_yields_List test _ _ _ c.all.ensures.ran (YieldsList-from_range 0 n n refl (omega arith)) (λ x b q k. search (rules, tests)))

@@ -1,20 +1,13 @@
-use borrow.Author.Rules.{rules}
-use native.Mathlib.Omega.{arith}
-use native.Mathlib.Numerals.{add-one}
-use Prim.Native.Nat.{ℕ, ◌+◌, ◌-◌}
-use mathlib.Core.Path.{◌≡◌, ◌∙◌}
-use lib.ListN.{get_or}
-use Rattle.choice.specs.Places.{stored_to}
-use Rattle.weights.specs.Weights.{weights_by}
+use Rattle.std.specs.Prelude.{ℕ, ◌+◌, get_or, ltb}
+use Rattle.std.proofs.Common.{rules, arith}
+use Rattle.choice.specs.Choice.{pick}
+use Rattle.choice.specs.laws.ChoiceLaws.{tests}
+use Rattle.choice.specs.laws.EachPlace.{made_placed}
+use Rattle.header.specs.laws.Listed.{weights_made}
 use Rattle.header.proofs.editions.listed_weights.Goals as goal
 
-pub loop-k-init : goal.loop-k-init
-unfolding weights_by stored_to
-loop-k-init c = (omega arith, omega arith, search rules)
-
-pub loop-k-preserved : goal.loop-k-preserved
-unfolding weights_by stored_to
-loop-k-preserved c = (omega arith, omega arith, rw add-one (cc))
-
 pub returns : goal.returns
-returns c = let e : ◌≡◌ {A = ℕ} c.loop-k.k c.few_sites-sites.result = omega arith in rw e at c.loop-k.invariant.2 ∙ c.few_sites-sites.ensures.1 (λ i. get_or c.args.list.now (8 + i) 0)
+returns c =
+    let f : ℕ → ℕ = λ i. get_or c.args.list.now (8 + i) 0 in
+    weights_made f c.args.n _ c.from_fn.ensures.items.long
+    (λ k d h. made_placed _ (λ k. pick (ltb k c.args.n) (f k) 0) _ _ 0 16 (λ k y q l. search (rules, tests)) c.from_fn.ensures.items.each k d (omega arith) (omega arith))

@@ -1,13 +1,9 @@
-use native.Mathlib.Omega.{arith}
 use Rattle.text.specs.Text.{text}
-use Rattle.text.specs.laws.Written.{joined}
+use Rattle.text.specs.laws.PageLaws.{joined}
 use Rattle.lines.specs.Lines.{site_line}
 use Rattle.lines.proofs.lines.put_site.Goals as goal
 
-pub returns : goal.returns
+pub returns-clause-put : goal.returns-clause-put
 unfolding text site_line
-returns c = record {
-  written = joined (joined (joined (joined c.put_standing-at.ensures.written c.put_log-at.ensures.written) c.put_byte-at.ensures.written)
-      c.put_codes-at.ensures.written) c.put_byte.ensures.written;
-  upper_bound = omega arith;
-}
+returns-clause-put c =
+    joined (joined (joined (joined c.put_standing.ensures.put c.put_log.ensures.put) c.put_byte.ensures.put) c.put_codes.ensures.put) c.put_byte-2.ensures.put

@@ -1,6 +1,6 @@
 use native.Mathlib.Omega.{arith}
 use Rattle.text.specs.laws.DecimalLaws.{decimal-below}
-use Rattle.text.specs.laws.Written.{joined}
+use Rattle.text.specs.laws.PageLaws.{joined}
 use Rattle.lines.proofs.lines.put_standing.Goals as goal
 
 pub put_state-requires : goal.put_state-requires
@@ -8,7 +8,6 @@ put_state-requires c = omega (arith, decimal-below 2 c.args.i (omega arith) (ome
 
 pub returns : goal.returns
 returns c = record {
-  written = joined (joined (joined c.put_decimal-at.ensures.written c.put_up-at.ensures.written) c.put_role-at.ensures.written)
-      (rw c.state-state.ensures at c.put_state.ensures.written);
+  put = joined (joined (joined c.put_decimal.ensures.put c.put_up.ensures.put) c.put_role.ensures.put) (rw c.state-state.ensures at c.put_state.ensures.put);
   upper_bound = omega (arith, decimal-below 2 c.args.i (omega arith) (omega arith));
 }

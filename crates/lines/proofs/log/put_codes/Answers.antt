@@ -1,29 +1,29 @@
-use borrow.Author.Rules.{rules}
 use native.Mathlib.Omega.{arith}
-use native.Mathlib.Numerals.{add-one}
-use Prim.Native.Nat.{ℕ, ◌-◌}
-use mathlib.Core.Path.{◌≡◌}
-use Rattle.text.specs.laws.Written.{joined, nothing}
+use Rattle.std.proofs.Common.{ℕ, ◌≡◌, ◌<◌, add-one, length-take, get_or-take}
+use Rattle.text.specs.laws.PageLaws.{joined, nothing}
 use Rattle.lines.specs.Lines.{code_digits}
 use Rattle.lines.specs.laws.LineLaws.{valid_code}
 use Rattle.lines.proofs.log.put_codes.Goals as goal
 
-pub loop-k-init : goal.loop-k-init
+pub loop-code-init : goal.loop-code-init
 unfolding code_digits
-loop-k-init c = (omega arith, omega arith, search rules, nothing _ _)
+loop-code-init c = (omega arith, nothing _)
 
-pub overflow_add-codes : goal.overflow_add-codes
-overflow_add-codes c = omega (arith, valid_code _ _ c.requires.1 c.requires.0 c.loop-k.k c.loop-k-test.true)
+pub overflow_add-code : goal.overflow_add-code
+overflow_add-code c =
+    let low : c.loop-code.code-index < c.args.n = omega (arith, length-take {A = ℕ}) in
+    rw (get_or-take c.args.n c.args.codes c.loop-code.code-index 0 low) (omega (arith, valid_code _ _ c.requires.1 c.requires.0 _ low))
 
-pub loop-k-preserved : goal.loop-k-preserved
+pub put_byte-requires : goal.put_byte-requires
+put_byte-requires c = omega (arith, length-take {A = ℕ})
+
+pub loop-code-preserved : goal.loop-code-preserved
 unfolding code_digits
-loop-k-preserved c = (
-  omega arith,
-  omega arith,
-  omega arith,
-  rw add-one (joined c.loop-k.invariant.3 c.put_byte-next.ensures.written),
-)
+loop-code-preserved c =
+    let low : c.loop-code.code-index < c.args.n = omega (arith, length-take {A = ℕ}) in
+    (omega arith, rw add-one (joined c.loop-code.invariant.1 (rw (get_or-take c.args.n c.args.codes c.loop-code.code-index 0 low) at c.put_byte.ensures.put)))
 
 pub returns : goal.returns
-returns c = let e : ◌≡◌ {A = ℕ} c.loop-k.k c.args.n = omega arith in
-    record { written = rw e at c.loop-k.invariant.3; upper_bound = omega arith }
+returns c =
+    let e : ◌≡◌ {A = ℕ} c.loop-code.code-index c.args.n = omega (arith, length-take {A = ℕ}) in
+    record { put = rw e at c.loop-code.invariant.1; upper_bound = omega arith }

@@ -1,12 +1,7 @@
-use Prim.Native.Nat.{◌+◌, ◌≤◌, ◌-◌}
-use mathlib.Core.Path.{◌≡◌}
-use lib.ListN.{length}
-use Rattle.text.specs.laws.Written.{Written}
+use Prim.Native.Nat.{◌+◌, ◌≤◌}
+use Rattle.text.specs.Page.{Put}
 use Rattle.lines.specs.Lines.{code_digits}
 use Rattle.lines.proofs.log.put_codes.Given as goal
 
-abbrev pub invariant-loop-k : goal.invariant-loop-k
-invariant-loop-k l = (l.k ≤ l.n) × (l.next ≤ l.at + l.k) × (length l.buffer ≡ length l.initial.buffer) × Written l.initial.buffer l.at (code_digits l.k l.codes) l.buffer l.next
-
-abbrev pub decreases-loop-k : goal.decreases-loop-k
-decreases-loop-k l = l.n - l.k
+abbrev pub invariant-loop-code : goal.invariant-loop-code
+invariant-loop-code l = (l.page.at ≤ l.initial.page.at + l.code-index) × Put l.initial.page (code_digits l.code-index l.fn.codes) l.page

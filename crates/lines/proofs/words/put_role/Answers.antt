@@ -1,12 +1,11 @@
-use native.Mathlib.Omega.{arith}
 use Rattle.text.specs.Text.{text}
 use Rattle.lines.specs.Lines.{role_word}
 use Rattle.lines.proofs.words.put_role.Goals as goal
 
-pub returns-then-coordinator : goal.returns-then-coordinator
+pub returns-then-coordinator-clause-put : goal.returns-then-coordinator-clause-put
 unfolding text role_word
-returns-then-coordinator c = record { written = rw c.if-coordinator.true c.put_word.ensures; upper_bound = omega arith }
+returns-then-coordinator-clause-put c = rw c.if-coordinator.true c.put_word.ensures
 
-pub returns : goal.returns
+pub returns-else-coordinator-clause-put : goal.returns-else-coordinator-clause-put
 unfolding text role_word
-returns c = record { written = rw c.if-coordinator.false c.put_word-2.ensures; upper_bound = omega arith }
+returns-else-coordinator-clause-put c = rw c.if-coordinator.false c.put_word-else-coordinator.ensures

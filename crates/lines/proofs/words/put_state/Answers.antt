@@ -1,28 +1,27 @@
-use native.Mathlib.Omega.{arith}
 use Rattle.text.specs.Text.{text}
 use Rattle.lines.specs.Lines.{state_word}
 use Rattle.lines.proofs.words.put_state.Goals as goal
 
-pub returns-in-Active : goal.returns-in-Active
+pub returns-in-Active-clause-put : goal.returns-in-Active-clause-put
 unfolding text state_word
-returns-in-Active c = record { written = rw c.in-Active.is c.put_word.ensures; upper_bound = omega arith }
+returns-in-Active-clause-put c = rw c.in-Active.is c.put_word.ensures
 
-pub returns-in-Prepared : goal.returns-in-Prepared
+pub returns-in-Prepared-clause-put : goal.returns-in-Prepared-clause-put
 unfolding text state_word
-returns-in-Prepared c = record { written = rw c.in-Prepared.is c.put_word-in-Prepared.ensures; upper_bound = omega arith }
+returns-in-Prepared-clause-put c = rw c.in-Prepared.is c.put_word-in-Prepared.ensures
 
-pub returns-in-CommitGroup : goal.returns-in-CommitGroup
+pub returns-in-CommitGroup-clause-put : goal.returns-in-CommitGroup-clause-put
 unfolding text state_word
-returns-in-CommitGroup c = record { written = rw c.in-CommitGroup.is c.put_word-in-CommitGroup.ensures; upper_bound = omega arith }
+returns-in-CommitGroup-clause-put c = rw c.in-CommitGroup.is c.put_word-in-CommitGroup.ensures
 
-pub returns-in-AbortGroup : goal.returns-in-AbortGroup
+pub returns-in-AbortGroup-clause-put : goal.returns-in-AbortGroup-clause-put
 unfolding text state_word
-returns-in-AbortGroup c = record { written = rw c.in-AbortGroup.is c.put_word-in-AbortGroup.ensures; upper_bound = omega arith }
+returns-in-AbortGroup-clause-put c = rw c.in-AbortGroup.is c.put_word-in-AbortGroup.ensures
 
-pub returns-in-Committed : goal.returns-in-Committed
+pub returns-in-Committed-clause-put : goal.returns-in-Committed-clause-put
 unfolding text state_word
-returns-in-Committed c = record { written = rw c.in-Committed.is c.put_word-in-Committed.ensures; upper_bound = omega arith }
+returns-in-Committed-clause-put c = rw c.in-Committed.is c.put_word-in-Committed.ensures
 
-pub returns-in-Aborted : goal.returns-in-Aborted
+pub returns-in-Aborted-clause-put : goal.returns-in-Aborted-clause-put
 unfolding text state_word
-returns-in-Aborted c = record { written = rw c.in-Aborted.is c.put_word-in-Aborted.ensures; upper_bound = omega arith }
+returns-in-Aborted-clause-put c = rw c.in-Aborted.is c.put_word-in-Aborted.ensures

@@ -1,12 +1,11 @@
-use native.Mathlib.Omega.{arith}
 use Rattle.text.specs.Text.{text}
 use Rattle.lines.specs.Lines.{up_word}
 use Rattle.lines.proofs.words.put_up.Goals as goal
 
-pub returns-then-up : goal.returns-then-up
+pub returns-then-up-clause-put : goal.returns-then-up-clause-put
 unfolding text up_word
-returns-then-up c = record { written = rw c.if-up.true c.put_word.ensures; upper_bound = omega arith }
+returns-then-up-clause-put c = rw c.if-up.true c.put_word.ensures
 
-pub returns : goal.returns
+pub returns-else-up-clause-put : goal.returns-else-up-clause-put
 unfolding text up_word
-returns c = record { written = rw c.if-up.false c.put_word-2.ensures; upper_bound = omega arith }
+returns-else-up-clause-put c = rw c.if-up.false c.put_word-else-up.ensures

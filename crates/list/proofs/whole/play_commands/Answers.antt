@@ -1,50 +1,16 @@
-use Rattle.header.specs.laws.HeaderLaws.{headed}
-use Rattle.world.specs.Worlds.{with_site, with_rows, with_news}
-use Rattle.world.specs.laws.PartLaws.{site_of-within}
-use Rattle.list.specs.laws.LoopLaws.{may_act, changes_on, changes_past, changes_out}
-use Rattle.list.specs.laws.Loop.{loop_begins, loop_ends}
-use Rattle.list.specs.Play.{play_list}
-use Rattle.play.specs.laws.Changes.{head_of, changed}
-use mathlib.Core.Path.{refl}
-use Prim.Native.Nat.{◌-◌}
 use native.Mathlib.Omega.{arith}
+use mathlib.Core.Path.{refl}
+use Rattle.refusals.specs.laws.RefusalLaws.{number-some}
+use Rattle.header.specs.laws.HeaderLaws.{headed}
+use Rattle.world.specs.laws.PartLaws.{site_of-within}
+use Rattle.play.specs.laws.Changes.{head_of, changed}
+use Rattle.list.specs.Play.{play_list}
+use Rattle.list.specs.laws.Loop.{loop_begins, loop_ends}
+use Rattle.list.specs.laws.LoopLaws.{may_act, changes_on, changes_past, changes_out}
 use Rattle.list.proofs.whole.play_commands.Goals as goal
 
--- src/whole.rt:21:5
-
--- src/whole.rt:22:13
-
--- src/whole.rt:23:13
-
--- src/whole.rt:24:20
-
--- src/whole.rt:24:20
-
--- src/whole.rt:25:41
-
--- src/whole.rt:25:13
-
--- src/whole.rt:27:13
-
--- src/whole.rt:27:13
-
--- src/whole.rt:35:9
-
--- src/whole.rt:35:9
-
--- src/whole.rt:38:9
-
--- src/whole.rt:21:5
-
--- src/whole.rt:21:5
-
--- src/whole.rt:13:1
-
--- src/whole.rt:13:1
-
 pub loop-at-init : goal.loop-at-init
-loop-at-init c = let e = c.requires in
-    (rw (e.0, e.1) (loop_begins c.args.store.now c.args.list.now e.2 e.3), refl)
+loop-at-init c = let e = c.requires in (rw (e.0, e.1) (loop_begins c.args.store.now c.args.list.now e.2 e.3), refl)
 
 pub actor-own-requires : goal.actor-own-requires
 unfolding head_of
@@ -58,54 +24,58 @@ pub bounds-world-own : goal.bounds-world-own
 unfolding head_of
 bounds-world-own c = let l = c.loop-at in omega (arith, c.actor-own.ensures.1, (may_act l.world l.invariant.0).high)
 
-pub act-change-requires : goal.act-change-requires
-act-change-requires c = rw c.head_of.ensures (may_act c.loop-at.world c.loop-at.invariant.0)
+pub act-requires : goal.act-requires
+act-requires c = rw c.head_of.ensures (may_act c.loop-at.world c.loop-at.invariant.0)
 
-pub returns-then-change-ne0 : goal.returns-then-change-ne0
+pub put-requires : goal.put-requires
 unfolding head_of
-returns-then-change-ne0 c = let o = let w = c.loop-at.world in
-    let i = c.loop-at.invariant.0 in
-    let t = c.act-change in
-    let own = c.actor-own in
-    changes_out w t.result t.new.store i c.loop-at-test.true c.read_command-reading.ensures.0 own.ensures.0
-    (site_of-within w own.result _ (omega (arith, own.ensures.1, (may_act w i).high, i.shaped.sites)))
-    (rw c.head_of.ensures at t.ensures) c.if-change-ne0.true in
-    record { played = o.played; stored = o.kept }
-
-pub offset_bounds-world-own-in-loop-at : goal.offset_bounds-world-own-in-loop-at
-unfolding head_of
-offset_bounds-world-own-in-loop-at c = let l = c.loop-at in omega (arith, c.actor-own.ensures.1, (may_act l.world l.invariant.0).high)
-
-pub bounds-world-own-in-loop-at : goal.bounds-world-own-in-loop-at
-unfolding head_of
-bounds-world-own-in-loop-at c = let l = c.loop-at in omega (arith, c.actor-own.ensures.1, (may_act l.world l.invariant.0).high)
+put-requires c = let l = c.loop-at in omega (arith, c.actor-own.ensures.1, (may_act l.world l.invariant.0).high)
 
 pub overflow_add-events : goal.overflow_add-events
-overflow_add-events c = let h = headed c.args.list.now c.requires.2 in omega (arith, c.loop-at.invariant.0.few, c.loop-at-test.true, h)
+overflow_add-events c =
+    let h = headed c.args.list.now c.requires.2 in
+    omega (arith, c.loop-at.invariant.0.few, c.loop-at-test.true, h)
 
 pub loop-at-smaller : goal.loop-at-smaller
 unfolding head_of
-loop-at-smaller c = let past = let w = c.loop-at.world in
+loop-at-smaller c =
+    let past =
+    let w = c.loop-at.world in
     let i = c.loop-at.invariant.0 in
-    let t = c.act-change in
     let own = c.actor-own in
-    changes_past w t.result t.new.store i c.loop-at-test.true c.read_command-reading.ensures.0 own.ensures.0
+    changes_past w _ c.act.new.store i c.loop-at-test.true c.read_command-reading.ensures.0 own.ensures.0
     (site_of-within w own.result _ (omega (arith, own.ensures.1, (may_act w i).high, i.shaped.sites)))
-    (rw c.head_of.ensures at t.ensures) c.if-change-ne0.false in
+    (rw c.head_of.ensures at c.in-Ok.ensures) refl in
     omega arith
 
 pub loop-at-preserved : goal.loop-at-preserved
-unfolding head_of changed with_news with_rows with_site
+unfolding head_of changed
 loop-at-preserved c = (
   let w = c.loop-at.world in
       let i = c.loop-at.invariant.0 in
-      let t = c.act-change in
       let own = c.actor-own in
-      changes_on w t.result t.new.store i c.loop-at-test.true c.read_command-reading.ensures.0 own.ensures.0
+      rw c.put.ensures
+      (changes_on w _ c.act.new.store i c.loop-at-test.true c.read_command-reading.ensures.0 own.ensures.0
       (site_of-within w own.result _ (omega (arith, own.ensures.1, (may_act w i).high, i.shaped.sites)))
-      (rw c.head_of.ensures at t.ensures) c.if-change-ne0.false,
+      (rw c.head_of.ensures at c.in-Ok.ensures) refl),
   omega arith,
 )
 
+pub returns-in-Err : goal.returns-in-Err
+unfolding head_of
+returns-in-Err c =
+    let o =
+    let w = c.loop-at.world in
+    let i = c.loop-at.invariant.0 in
+    let own = c.actor-own in
+    changes_out w _ c.act.new.store i c.loop-at-test.true c.read_command-reading.ensures.0 own.ensures.0
+    (site_of-within w own.result _ (omega (arith, own.ensures.1, (may_act w i).high, i.shaped.sites)))
+    (rw c.head_of.ensures at c.in-Err.ensures) (number-some c.in-Err.refusal.reason) in
+    record { played = o.played; stored = o.kept }
+
 pub returns : goal.returns
-returns c = let l = c.loop-at in let o = loop_ends (play_list c.args.store.now c.args.list.now) l.world l.store c.args.list.now l.at l.events l.invariant.0 c.loop-at-test.false in record { played = o.played; stored = o.kept }
+returns c =
+    let l = c.loop-at in
+    let o =
+    loop_ends (play_list c.args.store.now c.args.list.now) l.world l.store c.args.list.now l.at l.events l.invariant.0 c.loop-at-test.false in
+    record { played = o.played; stored = o.kept }

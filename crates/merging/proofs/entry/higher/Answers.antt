@@ -10,7 +10,7 @@ unfolding merge_entry
 returns-then-top-said c = let a = c.args in
     sym (pick-on (rises a.held a.said) a.said a.held (above-rises a.held a.said c.top.result (omega arith) c.top.ensures c.if-top-said.true))
 
-pub returns : goal.returns
+pub returns-else-top-said : goal.returns-else-top-said
 unfolding merge_entry
-returns c = let a = c.args in
+returns-else-top-said c = let a = c.args in
     sym (pick_off (rises a.held a.said) a.said a.held (not_above a.held a.said c.top.result (omega arith) c.top.ensures c.if-top-said.false))

@@ -1,15 +1,12 @@
-use borrow.Author.Rules.{rules}
-use native.Mathlib.Omega.{arith}
-use mathlib.Core.Path.{sym}
-use Rattle.choice.specs.laws.ChoiceLaws.{pick-on, pick_off}
+use Rattle.std.proofs.Common.{arith, ◌≡◌, ◌∙◌, ltb}
+use Rattle.choice.specs.laws.Cases.{by_test}
 use Rattle.merging.specs.Merging.{rises}
-use Rattle.merging.specs.laws.Tops.{above-rises, not_above}
+use Rattle.merging.specs.laws.Tops.{rises-above}
 use Rattle.merging.proofs.news.rise.Goals as goal
 
-pub returns-then-top-said : goal.returns-then-top-said
-returns-then-top-said c = let a = c.args in
-    (sym (pick-on (rises a.held a.said) 1 0 (above-rises a.held a.said c.top.result (omega arith) c.top.ensures c.if-top-said.true)), search rules)
-
 pub returns : goal.returns
-returns c = let a = c.args in
-    (sym (pick_off (rises a.held a.said) 1 0 (not_above a.held a.said c.top.result (omega arith) c.top.ensures c.if-top-said.false)), search rules)
+returns c =
+    let e : rises c.args.held c.args.said ≡ ltb c.top.result c.args.said = rises-above c.args.held c.args.said (omega arith) ∙ rw c.top.ensures in
+    by_test (ltb c.top.result c.args.said)
+    (λ q. let one : c.from.result ≡ 1 = rw q at c.from.ensures in (rw (e, q) one, omega arith))
+    (λ q. let none : c.from.result ≡ 0 = rw q at c.from.ensures in (rw (e, q) none, omega arith))

@@ -1,24 +1,12 @@
-use borrow.Author.Rules.{rules}
-use native.Mathlib.Omega.{arith}
-use native.Mathlib.Numerals.{add-one}
-use Prim.Native.Nat.{ℕ}
-use mathlib.Core.Path.{◌≡◌}
-use Rattle.choice.specs.Places.{sum_to}
+use Rattle.std.proofs.Common.{rules, ◌≡◌, ◌∙◌, sum_by}
+use Rattle.std.proofs.iter.runs.Sources.{sums}
+use Rattle.choice.specs.laws.Chains.{sum-at}
 use Rattle.merging.proofs.news.total.Goals as goal
 
-pub loop-k-init : goal.loop-k-init
-unfolding sum_to
-loop-k-init c = (omega arith, search rules, omega arith)
-
-pub overflow_add-sum : goal.overflow_add-sum
-overflow_add-sum c = let one = c.requires c.loop-k.k c.loop-k-test.true in
-    search (rules, one)
-
-pub loop-k-preserved : goal.loop-k-preserved
-unfolding sum_to
-loop-k-preserved c = let one = c.requires c.loop-k.k c.loop-k-test.true in
-    (omega arith, rw add-one (cc), omega (arith, one))
+pub sum-requires-clause-fits : goal.sum-requires-clause-fits
+sum-requires-clause-fits c = search (rules, sums)
 
 pub returns : goal.returns
-returns c = let e : ◌≡◌ {A = ℕ} c.loop-k.k 16 = omega arith in
-    rw e at c.loop-k.invariant.1
+returns c =
+    let e : c.sum.result ≡ sum_by (λ x. x) c.args.rose = search rules in
+    e ∙ sum-at (λ x. x) 0 c.args.rose 16 (search rules)

@@ -1,17 +1,35 @@
 use native.Mathlib.Omega.{arith}
-use native.Mathlib.Nat.{zero-add}
-use mathlib.Core.Path.{ap, sym, ◌∙◌}
+use Rattle.std.proofs.Common.{ap, sym, ◌∙◌, zero-add}
 use Rattle.player.specs.Shown.{shown_buffer, shown_length}
-use Rattle.player.specs.laws.ShownLaws.{header-small}
 use Rattle.player.proofs.show.show.Goals as goal
-
-pub put_last-requires : goal.put_last-requires
-put_last-requires c = (omega (arith, header-small c.args.played.number (sym c.is_header_number.ensures ∙ c.if-is_header_number.true), c.wide.ensures.0), omega arith, omega arith)
 
 pub returns-then-is_header_number : goal.returns-then-is_header_number
 unfolding shown_buffer shown_length
-returns-then-is_header_number c = record { buffer_after = simp (c.if-is_header_number.true, ← c.is_header_number.ensures) (rw c.wide.ensures.0 at c.put_last.ensures.written.holds); value = simp (c.if-is_header_number.true, ← c.is_header_number.ensures) (rw (c.wide.ensures.0, zero-add) at c.put_last.ensures.written.ends); upper_bound = omega arith }
+returns-then-is_header_number c =
+    let w = rw c.number_of-number.ensures at c.show_refusal.ensures.written in
+    let t = sym (rw c.number_of-number.ensures at c.is_header_number.ensures) ∙ c.if-is_header_number.true in
+    record { buffer_after = rw t w.holds; value = rw t (w.ends ∙ zero-add _); upper_bound = omega arith }
 
-pub returns : goal.returns
+pub returns-in-Ok : goal.returns-in-Ok
 unfolding shown_buffer shown_length
-returns c = record { buffer_after = simp (c.if-is_header_number.false, ← c.is_header_number.ensures) c.write_report-reported.ensures.buffer_after; value = simp (c.if-is_header_number.false, ← c.is_header_number.ensures) (ap (λ r. r.length) c.write_report-reported.ensures.value); upper_bound = c.write_report-reported.ensures.length_in_bounds }
+returns-in-Ok c =
+    let t = sym (rw c.number_of-number.ensures at c.is_header_number.ensures) ∙ c.if-is_header_number.false in
+    let value = rw (c.number_of-number.ensures, c.in-Ok.is) at c.write_report.ensures.value in
+    let bound = rw c.in-Ok.is at c.write_report.ensures.length_in_bounds in
+    record {
+      buffer_after = rw t (rw c.number_of-number.ensures at c.write_report.ensures.buffer_after);
+      value = rw t (ap (λ r. r.length) value);
+      upper_bound = bound;
+    }
+
+pub returns-in-Err : goal.returns-in-Err
+unfolding shown_buffer shown_length
+returns-in-Err c =
+    let t = sym (rw c.number_of-number.ensures at c.is_header_number.ensures) ∙ c.if-is_header_number.false in
+    let value = rw (c.number_of-number.ensures, c.in-Err.is) at c.write_report.ensures.value in
+    let bound = rw c.in-Err.is at c.write_report.ensures.length_in_bounds in
+    record {
+      buffer_after = rw t (rw c.number_of-number.ensures at c.write_report.ensures.buffer_after);
+      value = rw t (ap (λ r. r.length) value);
+      upper_bound = bound;
+    }

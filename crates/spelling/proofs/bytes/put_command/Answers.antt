@@ -3,9 +3,9 @@ use native.Mathlib.Omega.{arith}
 use Rattle.spelling.specs.Ranges.{InRange}
 use Rattle.spelling.proofs.bytes.put_command.Goals as goal
 
-pub put_byte-requires : goal.put_byte-requires
+pub put_word-requires : goal.put_word-requires
 unfolding command_bytes
-put_byte-requires c = omega (arith, rw c.in-Start.is at c.requires.1)
+put_word-requires c = omega (arith, rw c.in-Start.is at c.requires.1)
 
 pub put_delivery-requires : goal.put_delivery-requires
 unfolding command_bytes InRange
@@ -25,7 +25,7 @@ put_target-requires-in-Recover c = (rw c.in-Recover.is at c.requires.0, omega (a
 
 pub returns-in-Start : goal.returns-in-Start
 unfolding command_bytes
-returns-in-Start c = rw c.in-Start.is c.put_byte.ensures.written
+returns-in-Start c = rw c.in-Start.is c.put_word.ensures
 
 pub returns-in-Deliver : goal.returns-in-Deliver
 returns-in-Deliver c = rw c.in-Deliver.is c.put_delivery.ensures

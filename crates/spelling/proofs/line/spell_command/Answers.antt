@@ -20,21 +20,21 @@ pub spell_site-requires-in-Recover : goal.spell_site-requires-in-Recover
 unfolding InRange
 spell_site-requires-in-Recover c = (rw c.in-Recover.is at c.requires.0, omega arith)
 
-pub returns-in-Start : goal.returns-in-Start
+pub returns-in-Start-clause-put : goal.returns-in-Start-clause-put
 unfolding text command_line
-returns-in-Start c = record { written = rw c.in-Start.is c.put_word.ensures; upper_bound = omega arith }
+returns-in-Start-clause-put c = rw c.in-Start.is c.put_word.ensures
 
-pub returns-in-Deliver : goal.returns-in-Deliver
-returns-in-Deliver c = record { written = rw c.in-Deliver.is c.spell_delivery.ensures.written; upper_bound = omega arith }
+pub returns-in-Deliver-clause-put : goal.returns-in-Deliver-clause-put
+returns-in-Deliver-clause-put c = rw c.in-Deliver.is c.spell_delivery.ensures.put
 
-pub returns-in-Timeout : goal.returns-in-Timeout
+pub returns-in-Timeout-clause-put : goal.returns-in-Timeout-clause-put
 unfolding text named command_line
-returns-in-Timeout c = record { written = rw c.in-Timeout.is c.spell_site.ensures.written; upper_bound = omega arith }
+returns-in-Timeout-clause-put c = rw c.in-Timeout.is c.spell_site.ensures.put
 
-pub returns-in-Crash : goal.returns-in-Crash
+pub returns-in-Crash-clause-put : goal.returns-in-Crash-clause-put
 unfolding text named command_line
-returns-in-Crash c = record { written = rw c.in-Crash.is c.spell_site-in-Crash.ensures.written; upper_bound = omega arith }
+returns-in-Crash-clause-put c = rw c.in-Crash.is c.spell_site-in-Crash.ensures.put
 
-pub returns-in-Recover : goal.returns-in-Recover
+pub returns-in-Recover-clause-put : goal.returns-in-Recover-clause-put
 unfolding text named command_line
-returns-in-Recover c = record { written = rw c.in-Recover.is c.spell_site-in-Recover.ensures.written; upper_bound = omega arith }
+returns-in-Recover-clause-put c = rw c.in-Recover.is c.spell_site-in-Recover.ensures.put

@@ -1,8 +1,7 @@
-use Rattle.text.specs.laws.Written.{joined}
-use native.Mathlib.Omega.{arith}
+use Rattle.text.specs.laws.PageLaws.{joined}
 use Rattle.text.specs.Text.{text}
 use Rattle.spelling.proofs.line.spell_site.Goals as goal
 
-pub returns : goal.returns
+pub returns-clause-put : goal.returns-clause-put
 unfolding text
-returns c = record { written = joined c.put_named-at.ensures.written c.put_byte.ensures.written; upper_bound = omega arith }
+returns-clause-put c = joined c.put_named.ensures.put c.put_byte.ensures.put

@@ -24,12 +24,12 @@ returns-then-x-gt16384 c = let a = c.args in
 
 pub returns-then-rows-y : goal.returns-then-rows-y
 returns-then-rows-y c = let a = c.args in
-    let beyond = le-ltb ((a.x - 1) % 1024) (get_or a.rows.now ((a.x - 1) / 1024) 0) (omega arith) in
+    let beyond = le-ltb ((a.x - 1) % 1024) (get_or a.rows.now ((a.x - 1) / 1024) 0) (rw c.from-y.ensures at c.if-rows-y.true) in
     record { tells = sym (new_row (λ j. get_or a.rows.now j 0) a.marks.now a.x c.if-x-eq0.false ∙ rw (both_off _ _ beyond)); leaves = refl }
 
 pub returns-then-marks-y-ne0 : goal.returns-then-marks-y-ne0
 returns-then-marks-y-ne0 c = let a = c.args in
-    let marked = ne_eqb (get_or a.marks.now (a.x - 1) 0) 0 c.if-marks-y-ne0.true in record {
+    let marked = ne_eqb (get_or a.marks.now (a.x - 1) 0) 0 (rw c.from-y.ensures at c.if-marks-y-ne0.true) in record {
       tells = sym (new_row (λ j. get_or a.rows.now j 0) a.marks.now a.x c.if-x-eq0.false
           ∙ rw marked (both_off (both (ltb ((a.x - 1) / 1024) 16) (ltb ((a.x - 1) % 1024) (get_or a.rows.now ((a.x - 1) / 1024) 0))) false refl));
       leaves = refl;
@@ -43,8 +43,8 @@ returns c = let a = c.args in
       tells = sym (new_row (λ j. get_or a.rows.now j 0) a.marks.now a.x some
           ∙ rw (
             lt-ltb ((a.x - 1) / 1024) 16 inside,
-            lt-ltb ((a.x - 1) % 1024) (get_or a.rows.now ((a.x - 1) / 1024) 0) (omega arith),
-            eq-eqb (get_or a.marks.now (a.x - 1) 0) 0 c.if-marks-y-ne0.false,
+            lt-ltb ((a.x - 1) % 1024) (get_or a.rows.now ((a.x - 1) / 1024) 0) (rw c.from-y.ensures at c.if-rows-y.false),
+            eq-eqb (get_or a.marks.now (a.x - 1) 0) 0 (rw c.from-y.ensures at c.if-marks-y-ne0.false),
           ));
-      leaves = sym (mark-row a.marks.now a.x some);
+      leaves = rw c.from-y.ensures (sym (mark-row a.marks.now a.x some));
     }

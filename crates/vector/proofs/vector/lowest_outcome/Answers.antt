@@ -1,43 +1,22 @@
-use native.Mathlib.Omega.{arith}
-use native.Mathlib.Numerals.{add-one}
-use Prim.Native.Nat.{ℕ}
-use mathlib.Core.Path.{◌≡◌, refl, sym, ◌∙◌}
+use Rattle.std.proofs.Common.{arith, ◌≡◌, refl, sym, ap, ◌∙◌, get_or, take, add-one}
+use Rattle.std.proofs.lemmas.List.{get_or-take, length-take}
+use Rattle.vector.specs.Codes.{is_outcome}
 use Rattle.vector.specs.Vector.{lowest_outcome}
 use Rattle.vector.specs.laws.VectorLaws.{lowest-found, lowest-none}
 use Rattle.vector.proofs.vector.lowest_outcome.Goals as goal
 
--- src/vector.rt:67:5
-
--- src/vector.rt:68:23
-
--- src/vector.rt:68:12
-
--- src/vector.rt:69:20
-
--- src/vector.rt:69:13
-
--- src/vector.rt:71:9
-
--- src/vector.rt:67:5
-
--- src/vector.rt:67:5
-
--- src/vector.rt:62:1
-
-pub loop-k-init : goal.loop-k-init
+pub loop-code-init : goal.loop-code-init
 unfolding lowest_outcome
-loop-k-init c = (omega arith, refl)
+loop-code-init c = refl
 
 pub returns-then-is_outcome : goal.returns-then-is_outcome
-returns-then-is_outcome c = let a = c.args in
-    let l = c.loop-k in
-    sym (lowest-found l.k a.n a.codes c.loop-k-test.true l.invariant.1 (sym c.is_outcome.ensures ∙ c.if-is_outcome.true))
+returns-then-is_outcome c =
+    let k = c.loop-code.code-index in
+    let at : get_or (take c.args.n c.args.codes) k 0 ≡ get_or c.args.codes k 0 = get_or-take c.args.n c.args.codes k 0 (omega (arith, length-take c.args.n c.args.codes)) in
+    at ∙ sym (lowest-found k c.args.n c.args.codes (omega (arith, length-take c.args.n c.args.codes)) c.loop-code.invariant (sym (ap is_outcome at) ∙ sym c.is_outcome.ensures ∙ c.if-is_outcome.true))
 
-pub loop-k-preserved : goal.loop-k-preserved
-loop-k-preserved c = (
-  omega arith,
-  rw add-one (lowest-none c.loop-k.k c.args.codes c.loop-k.invariant.1 (sym c.is_outcome.ensures ∙ c.if-is_outcome.false)),
-)
-
-pub returns : goal.returns
-returns c = let e : ◌≡◌ {A = ℕ} c.loop-k.k c.args.n = omega arith in rw (← e) (sym c.loop-k.invariant.1)
+pub loop-code-preserved : goal.loop-code-preserved
+loop-code-preserved c =
+    let k = c.loop-code.code-index in
+    let at : get_or (take c.args.n c.args.codes) k 0 ≡ get_or c.args.codes k 0 = get_or-take c.args.n c.args.codes k 0 (omega (arith, length-take c.args.n c.args.codes)) in
+    rw add-one (lowest-none k c.args.codes c.loop-code.invariant (sym (ap is_outcome at) ∙ sym c.is_outcome.ensures ∙ c.if-is_outcome.false))

@@ -1,28 +1,17 @@
-use borrow.Author.Rules.{rules}
-use native.Mathlib.Omega.{arith}
-use native.Mathlib.Numerals.{add-one}
-use Prim.Native.Nat.{ℕ}
-use mathlib.Core.Path.{◌≡◌}
-use Rattle.choice.specs.Places.{sum_to}
+use Rattle.std.proofs.Common.{rules, arith, ◌≡◌, ◌∙◌, ◌<◌, sum_by, ℕ, get_or}
+use Rattle.std.proofs.iter.runs.Sources.{sums}
+use Rattle.choice.specs.laws.Chains.{sum-at}
 use Rattle.weights.specs.Weights.{weight_of, total_weight}
+use Rattle.weights.specs.laws.WeightLaws.{total-most}
 use Rattle.weights.proofs.sums.total_weight.Goals as goal
 
-pub loop-k-init : goal.loop-k-init
-unfolding sum_to
-loop-k-init c = (omega arith, search rules, omega arith)
-
--- LOST overflow-add-total
--- add_total : tie.Need-overflow-add-total invariant-loop decreases-loop
--- add_total c = search rules
-
--- LOST overflow-add-k
--- add-k : tie.Need-overflow-add-k invariant-loop decreases-loop
--- add-k c = search rules
-
-pub loop-k-preserved : goal.loop-k-preserved
-unfolding sum_to weight_of
-loop-k-preserved c = (omega arith, rw add-one (cc), omega arith)
+pub sum-requires-clause-fits : goal.sum-requires-clause-fits
+sum-requires-clause-fits c = search (rules, sums)
 
 pub returns : goal.returns
-unfolding total_weight
-returns c = let e : ◌≡◌ {A = ℕ} c.loop-k.k 16 = omega arith in (rw e at c.loop-k.invariant.1, omega arith)
+unfolding total_weight weight_of
+returns c =
+    let e : c.sum.result ≡ sum_by (λ x. x) c.args.weights = search rules in
+    let q : c.sum.result ≡ total_weight c.args.weights = e ∙ sum-at (λ x. x) 0 c.args.weights 16 (search rules) in
+    let few : (i : ℕ) → get_or c.args.weights i 0 < 256 = search rules in
+    (q, omega (arith, q, total-most c.args.weights (λ i h. omega (arith, few i))))
