@@ -10,7 +10,7 @@ use list::ListPlayed;
 use refusals::Reason;
 use text::Page;
 
-// A number of length or header.
+// A number of length or header, asked of the number that the report is told: six reasons named would be longer than a range.
 #[tactic(auto, using(choice::specs::laws::ChoiceLaws::tests), unfolding(crate::specs::Shown::is_header_number))]
 fn is_header_number(number: u8) -> bool
     ensures { result ≡ is_header_number number }
