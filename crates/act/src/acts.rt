@@ -1,9 +1,8 @@
 // What was read, acted out on the one site that it names.
 ghost use Rattle.std.specs.Prelude.{◌≡◌, ℕ, ◌<◌};
-ghost use Rattle.command.specs.Readings.{Reading};
 ghost use Rattle.participant.specs.Turns.{turned, moved};
-ghost use Rattle.play.specs.laws.Changes.{Ready, Acts, named_site, actor, change_of, entry_of};
-ghost use Rattle.play.specs.Commands.{perform, perform_read};
+ghost use Rattle.play.specs.laws.Changes.{Ready, Acts, ActsRead, named_site, entry_of};
+ghost use Rattle.play.specs.Commands.{perform};
 ghost use Rattle.act.specs.Turns.{delivery_turn, turn_of};
 
 use command::{Command, Delivery, Parsed};
@@ -62,25 +61,28 @@ fn perform(
     enter(head, store, next, step)
 }
 
-// What was read at a place, in a world that 17 need not be asked of, with the site that it acts on.
-pub fn act(
-    reading: Result<Parsed, Refusal>,
+// What was read at a place, in a world that 17 need not be asked of, with the site that it acts on. What it was refused with is the caller's, and
+// is handed on as it is.
+// In line, so that the changed site goes straight to where the caller has it.
+#[inline(always)]
+pub fn act<E: From<Refusal> + Copy>(
+    reading: Result<Parsed, E>,
     head: Head,
     site: Site,
     store: &mut [u8],
     at: usize,
-) -> Result<Change, Refusal>
+) -> Result<Change, E>
     requires { Ready head store.old }
-    ensures { Acts head (actor reading head.sizes.n) site (change_of head site result) store.new (λ w. perform_read reading w store.old at) }
+    ensures { ActsRead E.from_gives reading at head site result store.old store.new }
 {
     let Ok(parsed) = reading else {
         return Err(reading.unwrap_err());
     };
     if head.sizes.n <= named_site(parsed.command) {
-        return Err(Reason::NoSuchSite.at(at));
+        return Err(E::from(Reason::NoSuchSite.at(at)));
     }
     match perform(parsed.command, head, store, parsed.next, site) {
         Ok(change) => Ok(change),
-        Err(reason) => Err(reason.at(at)),
+        Err(reason) => Err(E::from(reason.at(at))),
     }
 }

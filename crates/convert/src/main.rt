@@ -7,7 +7,7 @@ ghost use Rattle.world.specs.Sizes.{list_bytes};
 ghost use Rattle.spelling.specs.Answers.{answer_of};
 ghost use Rattle.conversion.specs.Conversion.{convert};
 
-use refusals::Refusal;
+use refusals::{Numbered, Refusal};
 use spelling::Spelled;
 use std::io;
 use world::World;
@@ -28,6 +28,6 @@ fn main(rt: HostRuntime) -> io::Result<()> {
     let mut output = [0u8; World::LIST_BYTES];
     let n = reading::read_full(&mut rt.stdin(), &mut input)?;
     let spelled = carry(&input[..n], &mut output);
-    let k = spelled_out::shown(spelled, &mut output);
+    let k = spelled_out::shown(spelled.map_err(Numbered::from), &mut output);
     rt.write_all(&output[..k])
 }

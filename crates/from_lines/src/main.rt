@@ -7,7 +7,7 @@ ghost use Rattle.world.specs.Sizes.{list_bytes};
 ghost use Rattle.spelling.specs.Answers.{answer_of};
 ghost use Rattle.from_lines.specs.FromLines.{from_lines};
 
-use refusals::{Reason, Refusal};
+use refusals::{Numbered, Reason, Refusal};
 use spelling::Spelled;
 use std::io;
 use world::World;
@@ -34,6 +34,6 @@ fn main(rt: HostRuntime) -> io::Result<()> {
     let mut list = [0u8; World::LIST_BYTES];
     let n = reading::read_full(&mut rt.stdin(), &mut input)?;
     let spelled = read(&input[..n], &mut list);
-    let k = spelled_out::shown(spelled, &mut list);
+    let k = spelled_out::shown(spelled.map_err(Numbered::from), &mut list);
     rt.write_all(&list[..k])
 }

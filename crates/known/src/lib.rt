@@ -7,12 +7,14 @@ ghost use Rattle.row.specs.Rows.{codes_known, row_known};
 
 use row::Row;
 
-// The codes below n are at most 5.
+// The codes below n are at most 5. Folded to the end: `all` stops early, and then one code is compared after another.
 fn codes_known(n: usize, codes: [u8; 16]) -> bool
     requires { n ≤ 16 }
     ensures { result ≡ codes_known n codes }
 {
-    codes[..n].iter().all(|&code| code <= 5)
+    codes[..n]
+        .iter()
+        .fold(true, |known, &code| known & (code <= 5))
 }
 
 #[tactic(auto, using(choice::specs::laws::ChoiceLaws::tests), unfolding(row::specs::Rows::row_known))]

@@ -1,11 +1,8 @@
 -- The calls offered to C that write a list or its lines into a lent buffer: number, and every byte of every buffer that is lent.
 -- 17: a result of another length than 16; then the call's own numbers.
-use Rattle.std.specs.Prelude.{ℕ, List, true, false, ◌≡◌, Result, eqb, length}
+use Rattle.std.specs.Prelude.{ℕ, List, eqb, length}
 use Rattle.choice.specs.Choice.{pick}
 use Rattle.layout.specs.Numbers.{put_number}
-use Rattle.refusals.specs.declared.Refusal.{Refusal}
-use Rattle.spelling.specs.declared.Spelled.{Spelled}
-use Rattle.spelling.specs.Answers.{answer_of}
 use Rattle.spelling.specs.WriteRead.{Output}
 
 -- the length of these calls' result buffer
@@ -32,11 +29,3 @@ unfoldable pub lines_call : (List ℕ → Output) → List ℕ → List ℕ → 
 lines_call call buffer result =
     pick (eqb (length result) lines_result_bytes) (leave_lines (call buffer) result)
     (record { number = 17; buffer = buffer; result = result })
-
--- what a call left, by what its work on the buffer answers and leaves: 17 and no work at a result of another length
-abbrev pub AnsweredBy : (Result Spelled Refusal → List ℕ → Type 0) → List ℕ → List ℕ → ℕ → List ℕ → List ℕ → Type 0
-AnsweredBy Works buffer result number after left =
-    (eqb (length result) lines_result_bytes ≡ false → (number ≡ 17) × (after ≡ buffer) × (left ≡ result))
-    × (eqb (length result) lines_result_bytes ≡ true →
-    (answer : _) × Works answer after × (number ≡ (answer_of answer).number)
-    × (left ≡ put_number 8 (put_number 8 result 0 (answer_of answer).length) 8 (answer_of answer).place))

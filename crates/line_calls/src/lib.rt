@@ -9,7 +9,8 @@ ghost use Rattle.spelling.specs.Answers.{answer_of};
 ghost use Rattle.spelling.specs.WriteRead.{write_lines, read_lines};
 ghost use Rattle.conversion.specs.Conversion.{convert};
 ghost use Rattle.quiet.specs.QuietList.{write_quiet};
-ghost use Rattle.line_calls.specs.LineCalls.{lines_result_bytes, lines_call, AnsweredBy};
+ghost use Rattle.line_calls.specs.LineCalls.{lines_result_bytes, lines_call};
+ghost use Rattle.line_calls.specs.laws.LineCallLaws.{AnsweredBy};
 
 use refusals::{Reason, Refusal};
 use site::{AbortQuorum, CommitQuorum};

@@ -4,7 +4,8 @@
 
 ghost use Rattle.std.specs.Prelude.{◌≡◌, ◌≤◌, length};
 ghost use Rattle.scan.specs.Scan.{number_at};
-ghost use Rattle.spelling.specs.LineReading.{Makes, end_line, site_end, row_end};
+ghost use Rattle.spelling.specs.LineReading.{end_line, site_end, row_end};
+ghost use Rattle.spelling.specs.laws.Makers.{Makes};
 
 use command::{Command, Delivery, Parsed, Target};
 use refusals::{Reason, Refusal};

@@ -15,7 +15,7 @@ use rules::Step;
 use site::Site;
 
 // What the order that these bytes are makes the member do; a delivery's row follows in them.
-#[tactic(auto, unfolding(crate::specs::Turns::turn_by, member::specs::Orders::row_in))]
+#[tactic(auto, using(crate::specs::laws::OrderLaws::rooms), unfolding(crate::specs::Turns::turn_by, member::specs::Orders::row_in))]
 fn turn(order: Order, member: Member, site: Site, bytes: &[u8]) -> Result<Step, Reason>
     requires { (member.own < member.n) × (member.n ≤ 16) × (read_order bytes.now ≡ Ok order) }
     ensures { turned result ≡ moved (turn_by order bytes.now member site) }

@@ -14,9 +14,10 @@ pub fn rise(held: u8, said: u8) -> u8
     u8::from(top(held) < said)
 }
 
-// The sum of the marks.
+// The sum of the marks, in sixteen bits, so that more of them are added at once.
 pub fn total(rose: [u8; 16]) -> usize
     ensures { result ≡ sum_to (λ i. get_or rose i 0) 16 }
 {
-    rose.iter().map(|&mark| usize::from(mark)).sum()
+    let sum: u16 = rose.iter().map(|&mark| u16::from(mark)).sum();
+    usize::from(sum)
 }

@@ -9,6 +9,8 @@ use rules::{Step, commanding};
 use site::Outcome;
 
 impl Participant {
+    // A call of its own: it writes at place 0, and in line the compiler would keep that byte apart from the fifteen others for every command.
+    #[inline(never)]
     #[tactic(auto, unfolding(rules::specs::Rules::start, rules::specs::Rules::commanding, rules::specs::Rules::command_row, site::specs::Fields::with_coordinator, site::specs::Fields::with_prepared, site::specs::Fields::with_codes, site::specs::Fields::with_outcome, site::specs::Records::write_prepare, site::specs::Records::write_outcome, site::specs::Records::with_own, site::specs::Records::outcome_of, site::specs::Records::record_code))]
     pub fn start(mut self, willing: bool) -> Step
         requires { (self.n ≤ 16) × (0 < self.n) }

@@ -1,10 +1,8 @@
 // The site that a command, or what was read, acts on.
 ghost use Rattle.std.specs.Prelude.{◌≡◌, ◌<◌};
-ghost use Rattle.command.specs.Readings.{Reading};
 ghost use Rattle.play.specs.laws.Changes.{named_site, actor};
 
 use command::{Command, Parsed};
-use refusals::Refusal;
 
 // The site that a command names; START is for site 0.
 #[tactic(auto, unfolding(crate::specs::laws::Changes::named_site))]
@@ -18,9 +16,10 @@ pub fn named_site(command: Command) -> usize
     }
 }
 
-// The site that what was read acts on; 0 where it names none below n, for then nothing is changed, and a site is handed to `act` all the same.
+// The site that what was read acts on, whatever it was refused with; 0 where it names none below n, for then nothing is changed, and a site is
+// handed to `act` all the same.
 #[tactic(auto, using(choice::specs::laws::ChoiceLaws::tests), unfolding(crate::specs::laws::Changes::actor))]
-pub fn actor(reading: Result<Parsed, Refusal>, n: usize) -> usize
+pub fn actor<E: Copy>(reading: Result<Parsed, E>, n: usize) -> usize
     requires { 0 < n }
     ensures { (result ≡ actor reading n) × (result < n) }
 {

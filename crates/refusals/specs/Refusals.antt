@@ -3,6 +3,7 @@ use Rattle.std.specs.Prelude.{ℕ, Option, Some, None, Result, Ok, Err}
 use Rattle.refusals.specs.declared.Reason.{Reason}
 use Rattle.refusals.specs.declared.Reason.TheVariants as Reason·
 use Rattle.refusals.specs.declared.Refusal.{Refusal}
+use Rattle.refusals.specs.declared.Numbered.{Numbered}
 
 -- the number of a reason
 abbrev pub number_of : Reason → ℕ
@@ -37,6 +38,10 @@ answer_number (Err reason) = number_of reason
 -- a refusal of the whole: its place is 0
 abbrev pub at_beginning : Reason → Refusal
 at_beginning reason = record { reason = reason; place = 0 }
+
+-- a refusal told by its number
+abbrev pub by_number : Refusal → Numbered
+by_number r = record { number = number_of r.reason; place = r.place }
 
 -- the number of a stop: 0 for none
 abbrev pub stop_number : Option Reason → ℕ

@@ -2,7 +2,7 @@
 #![tactic(auto)]
 
 ghost use Rattle.std.specs.Prelude.{◌≡◌};
-ghost use Rattle.refusals.specs.Refusals.{number_of, at_beginning};
+ghost use Rattle.refusals.specs.Refusals.{number_of, at_beginning, by_number};
 
 // The conditions that stop a call, each with its number.
 #[derive(Clone, Copy, Debug, PartialEq, Eq)]
@@ -45,6 +45,7 @@ impl Reason {
 impl From<Reason> for u8 {
     ghost from_gives = { λ reason number. number ≡ number_of reason };
 
+    #[tactic(auto, unfolding(crate::specs::Refusals::number_of))]
     fn from(reason: Reason) -> u8 {
         reason as u8
     }
@@ -70,5 +71,23 @@ impl From<Reason> for Refusal {
 
     fn from(reason: Reason) -> Refusal {
         reason.at(0)
+    }
+}
+
+// A refusal told by its number, which may be any: what callers hand on may come from elsewhere.
+#[derive(Clone, Copy, Debug, PartialEq, Eq)]
+pub struct Numbered {
+    pub number: u8,
+    pub place: usize,
+}
+
+impl From<Refusal> for Numbered {
+    ghost from_gives = { λ refusal numbered. numbered ≡ by_number refusal };
+
+    fn from(refusal: Refusal) -> Numbered {
+        Numbered {
+            number: u8::from(refusal.reason),
+            place: refusal.place,
+        }
     }
 }

@@ -1,9 +1,16 @@
 -- What the programs print of a call that writes a list or its lines: its output, or the refusal's line alone.
-use Rattle.std.specs.Prelude.{ℕ, List, eqb, length}
+use Rattle.std.specs.Prelude.{ℕ, List, Result, Ok, Err, eqb, length}
 use Rattle.std.proofs.lemmas.List.Edits.{sets}
 use Rattle.choice.specs.Choice.{pick}
 use Rattle.lines.specs.Lines.{last_line}
+use Rattle.refusals.specs.declared.Numbered.{Numbered}
+use Rattle.spelling.specs.declared.Spelled.{Spelled}
 use Rattle.spelling.specs.Answers.{Answer}
+
+-- the number and the values that each case stands for, where a refusal tells any number
+abbrev pub answer_numbered : Result Spelled Numbered → Answer
+answer_numbered (Ok s) = record { number = 0; place = s.place; length = s.length }
+answer_numbered (Err r) = record { number = r.number; place = r.place; length = 0 }
 
 -- the buffer with what is printed at its beginning
 unfoldable pub shown_buffer : Answer → List ℕ → List ℕ

@@ -1,6 +1,6 @@
 -- Reading lines.
 -- Refusal: 19 a line not in its form, or a number past its range, at the line's first byte.
-use Rattle.std.specs.Prelude.{ℕ, ◌+◌, ◌≡◌, List, Option, Some, None}
+use Rattle.std.specs.Prelude.{ℕ, ◌+◌, List, Option, Some, None}
 use Rattle.choice.specs.Choice.{pick}
 use Rattle.text.specs.Text.{text}
 use Rattle.scan.specs.declared.Number.{Number}
@@ -20,10 +20,6 @@ bad_line at = refused Reason·.BadLine at
 -- the line feed after a line's last number
 unfoldable pub end_line : List ℕ → ℕ → Command → ℕ → Reading
 end_line s at command next = pick (word_at (text "\n") s next) (found command (next + 1)) (bad_line at)
-
--- what is called with a target makes this command of it
-abbrev pub Makes : (Target → Command → Type 0) → (Target → Command) → Type 0
-Makes post make = (t : Target) (c : Command) → post t c → c ≡ make t
 
 -- the rest of a line that ends with a site number
 unfoldable pub site_end : (Target → Command) → List ℕ → ℕ → Option Number → Reading

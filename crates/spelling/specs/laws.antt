@@ -1,3 +1,4 @@
+pub mod Makers
 pub mod ScriptLaws
 pub mod LoopLaws
 pub mod Measured

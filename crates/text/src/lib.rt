@@ -13,6 +13,16 @@ pub struct Page<'a> {
     pub at: usize,
 }
 
+// The word in a place of its length. A loop and no `copy_from_slice`: that one asks the C library for `memmove`.
+fn copy_word(place: &mut [u8], word: &[u8])
+    requires { length place.old ≡ length word.now }
+    ensures { place.new ≡ word.now }
+{
+    for k in 0..word.len() {
+        place[k] = word[k];
+    }
+}
+
 impl<'a> Page<'a> {
     // A page that is filled from the buffer's beginning.
     pub fn new(buffer: &'a mut [u8]) -> Page<'a>
@@ -47,7 +57,7 @@ impl<'a> Page<'a> {
         ensures { Put self.old word.now self.new }
     {
         let next = self.at + word.len();
-        self.buffer[self.at..next].copy_from_slice(word);
+        copy_word(&mut self.buffer[self.at..next], word);
         self.at = next;
     }
 

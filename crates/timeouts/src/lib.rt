@@ -91,7 +91,7 @@ pub fn timeout_in_commit_group(
     ensures { stepped result ≡ (pick site.coordinator (decide_commit own n weights commit site) (take_over 3 own n site)).step }
 {
     let codes = site.codes;
-    let reached = commit.reached(weights, n, codes);
+    let reached = site.coordinator && commit.reached(weights, n, codes);
     timeout_in_group(Kind::JoinCommit, reached, Outcome::Commit, 4, own, n, site)
 }
 
@@ -107,6 +107,6 @@ pub fn timeout_in_abort_group(
     ensures { stepped result ≡ (pick site.coordinator (decide_abort own n weights abort site) (take_over 4 own n site)).step }
 {
     let codes = site.codes;
-    let reached = abort.reached(weights, n, codes);
+    let reached = site.coordinator && abort.reached(weights, n, codes);
     timeout_in_group(Kind::JoinAbort, reached, Outcome::Abort, 5, own, n, site)
 }

@@ -7,7 +7,7 @@ ghost use Rattle.world.specs.Sizes.{text_bytes};
 ghost use Rattle.spelling.specs.Answers.{answer_of};
 ghost use Rattle.spelling.specs.WriteRead.{write_lines};
 
-use refusals::Refusal;
+use refusals::{Numbered, Refusal};
 use spelling::Spelled;
 use std::io;
 use world::World;
@@ -28,6 +28,6 @@ fn main(rt: HostRuntime) -> io::Result<()> {
     let mut text = [0u8; World::TEXT_BYTES];
     let n = reading::read_full(&mut rt.stdin(), &mut input)?;
     let spelled = write(&input[..n], &mut text);
-    let k = spelled_out::shown(spelled, &mut text);
+    let k = spelled_out::shown(spelled.map_err(Numbered::from), &mut text);
     rt.write_all(&text[..k])
 }

@@ -33,7 +33,7 @@ impl World {
     }
 
     // A fresh world, or the world of zeros for refused sizes: any caller may hand in any.
-    #[tactic(auto, using(choice::specs::laws::ChoiceLaws::tests), unfolding(crate::specs::Worlds::fresh_world))]
+    #[tactic(auto, using(choice::specs::laws::ChoiceLaws::tests, crate::specs::laws::SizesLaws::few_sites), unfolding(crate::specs::Worlds::fresh_world))]
     pub fn fresh(sizes: Sizes) -> World
         ensures { result ≡ fresh_world sizes.n sizes.weights sizes.commit sizes.abort sizes.willing }
     {

@@ -22,7 +22,7 @@ use Rattle.play.specs.declared.Head.{Head}
 use Rattle.play.specs.Calls.{Call, played_of, refuse, enter}
 use Rattle.play.specs.Commands.{start_call, timeout_call, crash_call, recover_call, deliver_row, deliver_call, perform}
 use Rattle.play.specs.laws.Changes.{Acts, SiteChange, head_of, world_of, changed, refused_change, named_site}
-use Rattle.play.specs.laws.CallLaws.{refused_acts}
+use Rattle.play.proofs.laws.CallLaws.{refused_acts}
 use Rattle.act.specs.Turns.{delivery_turn, turn_of}
 
 -- a turn entered into world and store

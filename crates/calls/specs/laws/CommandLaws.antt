@@ -12,7 +12,7 @@ use Rattle.play.specs.declared.Head.{Head}
 use Rattle.play.specs.Calls.{refuse, played_of}
 use Rattle.play.specs.Commands.{perform_read, play_command, one_command}
 use Rattle.play.specs.laws.Changes.{Ready, Acts, SiteChange, head_of, world_of, changed, actor}
-use Rattle.play.specs.laws.CallLaws.{ready, one-is_play, acts_played}
+use Rattle.play.proofs.laws.CallLaws.{ready, one-is_play, acts_played}
 use Rattle.layout.specs.Numbers.{put_number}
 use Rattle.layout.specs.Layout.{site_place, site_at, put_world, world_at, in_layout}
 use Rattle.layout.proofs.laws.LayoutLaws.{site_of_lem}

@@ -74,3 +74,11 @@ codes-part bytes at room =
     same_number_lists (take 16 (drop at bytes)) (codes_from 16 bytes at) (size ∙ sym (codes_from-length 16 bytes at))
     (λ i h. let below : i < 16 = omega arith in
     get_or-take 16 (drop at bytes) i 0 below ∙ get_or-drop at bytes i 0 ∙ sym (codes_from-at 16 bytes at i below (omega arith)))
+
+-- sixteen codes made place by place are those read
+pub codes_made :
+    (bytes : List ℕ) (at : ℕ) (made : List ℕ) → length made ≡ 16 → ((k d : ℕ) → k < 16 → get_or made k d ≡ get_or bytes (at + k) 0) →
+    made ≡ codes_from 16 bytes at
+codes_made bytes at made full each =
+    same_number_lists made (codes_from 16 bytes at) (full ∙ sym (codes_from-length 16 bytes at))
+    (λ i h. let below : i < 16 = omega (arith, full) in each i 0 below ∙ sym (codes_from-at 16 bytes at i below (omega arith)))

@@ -1,10 +1,11 @@
 use native.Mathlib.Omega.{arith}
 use mathlib.Core.Path.{sym}
 use lib.Seq.{length-take-le}
+use Rattle.spelled_out.specs.laws.ShownLaws.{answer_told}
 use Rattle.from_lines.proofs.main.Goals as goal
 
 pub shown-k-requires : goal.shown-k-requires
-shown-k-requires c = (omega (arith, c.read-spelled.ensures.length_in_bounds.0), omega (arith, c.read-spelled.ensures.length_in_bounds.1), omega arith)
+shown-k-requires c = rw (answer_told _ _ c.map_err.ensures.cases) (omega (arith, c.read-spelled.ensures.length_in_bounds.0), omega (arith, c.read-spelled.ensures.length_in_bounds.1), omega arith)
 
 pub slice_bounds-list-end : goal.slice_bounds-list-end
 slice_bounds-list-end c = omega (arith, c.shown-k.ensures.upper_bound)

@@ -1,11 +1,21 @@
--- Laws of these calls: what each return of the code leaves.
-use Rattle.std.specs.Prelude.{ℕ, true, false, List, ◌≡◌, eqb, length}
+-- What each return of the code leaves, and the laws by which that is what the call does.
+use Rattle.std.specs.Prelude.{ℕ, true, false, List, ◌≡◌, Result, eqb, length}
 use Rattle.std.proofs.Common.{ap, ◌∙◌}
 use Rattle.choice.specs.laws.Cases.{by_test}
+use Rattle.refusals.specs.declared.Refusal.{Refusal}
+use Rattle.spelling.specs.declared.Spelled.{Spelled}
 use Rattle.spelling.specs.Answers.{answer_of}
 use Rattle.layout.specs.Numbers.{put_number}
 use Rattle.spelling.specs.WriteRead.{Output}
-use Rattle.line_calls.specs.LineCalls.{lines_result_bytes, leave_lines, lines_call, AnsweredBy}
+use Rattle.line_calls.specs.LineCalls.{lines_result_bytes, leave_lines, lines_call}
+
+-- what a call left, by what its work on the buffer answers and leaves: 17 and no work at a result of another length
+abbrev pub AnsweredBy : (Result Spelled Refusal → List ℕ → Type 0) → List ℕ → List ℕ → ℕ → List ℕ → List ℕ → Type 0
+AnsweredBy Works buffer result number after left =
+    (eqb (length result) lines_result_bytes ≡ false → (number ≡ 17) × (after ≡ buffer) × (left ≡ result))
+    × (eqb (length result) lines_result_bytes ≡ true →
+    (answer : _) × Works answer after × (number ≡ (answer_of answer).number)
+    × (left ≡ put_number 8 (put_number 8 result 0 (answer_of answer).length) 8 (answer_of answer).place))
 
 module _ (call : List ℕ → Output) (buffer result : List ℕ) where
   pub lines_17 :

@@ -6,7 +6,7 @@ use Rattle.world.specs.declared.World.{World}
 use Rattle.world.specs.Sizes.{max_news, store_bytes}
 use Rattle.world.specs.Valid.{valid_world}
 use Rattle.play.specs.Commands.{play_command, one_command}
-use Rattle.play.specs.laws.CallLaws.{one-is_play}
+use Rattle.play.proofs.laws.CallLaws.{one-is_play}
 use Rattle.safety.specs.Claims.{Shaped, Unchanged}
 use Rattle.safety.proofs.laws.Unchanging.{refused_changes_nothing, accepted_keeps_the_rest}
 use Rattle.safety.proofs.laws.Shape.{shaped-kept}

@@ -9,7 +9,7 @@ use Rattle.world.specs.laws.WorldLaws.{valid-sized}
 use Rattle.header.specs.Headers.{header_of, header_weights, header_length, header_world}
 use Rattle.header.specs.laws.HeaderLaws.{length_some}
 use Rattle.play.specs.Commands.{play_command, one_command}
-use Rattle.play.specs.laws.CallLaws.{one-is_play}
+use Rattle.play.proofs.laws.CallLaws.{one-is_play}
 use Rattle.safety.specs.Claims.{Shaped}
 use Rattle.safety.proofs.laws.Unchanging.{accepted_keeps_the_rest}
 use Rattle.safety.proofs.laws.News.{fresh-none}

@@ -16,7 +16,7 @@ use Rattle.header.specs.laws.HeaderLaws.{headed, header_stop, header_stop_lem}
 use Rattle.play.specs.Calls.{Call}
 use Rattle.play.specs.Commands.{one_command}
 use Rattle.play.specs.Run.{Ask, run, call_of, after_call}
-use Rattle.play.specs.laws.CallLaws.{one-is_play}
+use Rattle.play.proofs.laws.CallLaws.{one-is_play}
 use Rattle.safety.specs.Claims.{Shaped}
 use Rattle.safety.proofs.laws.Unchanging.{refused_changes_nothing}
 use Rattle.safety.proofs.laws.Demand3.{demand3}

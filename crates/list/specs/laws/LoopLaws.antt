@@ -10,7 +10,7 @@ use Rattle.world.specs.Worlds.{site_of}
 use Rattle.play.specs.Calls.{Told, played_of}
 use Rattle.play.specs.Commands.{perform_read, play_command}
 use Rattle.play.specs.laws.Changes.{Ready, Acts, SiteChange, actor, changed, head_of, world_of}
-use Rattle.play.specs.laws.CallLaws.{ready, acts_played}
+use Rattle.play.proofs.laws.CallLaws.{ready, acts_played}
 use Rattle.list.specs.Play.{Play}
 use Rattle.list.specs.laws.CommandLaws.{place_after}
 use Rattle.list.specs.laws.Loop.{Underway, Over, loop_goes_on, loop_stops}

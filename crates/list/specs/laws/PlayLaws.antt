@@ -8,7 +8,7 @@ use Rattle.world.specs.Sizes.{store_bytes}
 use Rattle.world.specs.Valid.{valid_world}
 use Rattle.play.specs.Calls.{Call}
 use Rattle.play.specs.Commands.{play_command, one_command}
-use Rattle.play.specs.laws.CallLaws.{one-is_play}
+use Rattle.play.proofs.laws.CallLaws.{one-is_play}
 use Rattle.safety.specs.Claims.{Shaped}
 use Rattle.list.specs.Play.{Play, stopped, after_ask, ask_at, play_from}
 use Rattle.list.specs.laws.CommandLaws.{place_after, store_kept, next-valid}

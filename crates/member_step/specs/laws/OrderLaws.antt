@@ -72,3 +72,5 @@ delivery-room bytes e =
     let room : Roomy bytes (Ok Order·.Deliver) =
     subst (Roomy bytes) e (subst (Roomy bytes) (sym (first_byte bytes)) (order_roomy (get_or bytes 0 0) bytes)) in
     room
+
+pub ruleset rooms = (delivery-room)

@@ -6,7 +6,7 @@ use mathlib.Core.Path.{sym, ◌∙◌}
 use Rattle.world.specs.Sizes.{store_bytes}
 use Rattle.play.specs.Calls.{refuse, played_of}
 use Rattle.play.specs.Commands.{one_command}
-use Rattle.play.specs.laws.CallLaws.{ready}
+use Rattle.play.proofs.laws.CallLaws.{ready}
 use Rattle.perform.proofs.one_command.Goals as goal
 
 pub returns-then-store-lt-STORE_BYTES : goal.returns-then-store-lt-STORE_BYTES

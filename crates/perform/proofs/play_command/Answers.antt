@@ -2,7 +2,7 @@ use native.Mathlib.Omega.{arith}
 use Rattle.std.proofs.Common.{sym, ◌∙◌}
 use Rattle.std.proofs.lemmas.Result.{err_from_is_err_and}
 use Rattle.play.specs.laws.Changes.{head_of, world_of, changed}
-use Rattle.play.specs.laws.CallLaws.{acts_played, refused_told}
+use Rattle.play.proofs.laws.CallLaws.{acts_read, acts_played, refused_told}
 use Rattle.perform.proofs.play_command.Goals as goal
 
 pub actor-own-requires : goal.actor-own-requires
@@ -24,7 +24,7 @@ returns-in_err-change c =
     let r =
     acts_played w.sites (head_of w) c.args.store.now c.args.list.now c.args.at c.read_command-reading.result c.actor-own.result
     c.site.result _ c.act.new.store c.read_command-reading.ensures.0 c.actor-own.ensures.0 c.site.ensures
-    (rw c.head_of.ensures at c.in_err-change.ensures) in
+    (acts_read _ _ _ _ _ _ _ (rw c.head_of.ensures at c.in_err-change.ensures)) in
     rw (p.1, p.2) (record { played = sym (refused_told w c.actor-own.result _ _ c.site.result c.site.ensures) ∙ r.0; stored = r.1 })
 
 pub put-requires : goal.put-requires
@@ -38,5 +38,5 @@ returns c =
     let r =
     acts_played w.sites (head_of w) c.args.store.now c.args.list.now c.args.at c.read_command-reading.result c.actor-own.result
     c.site.result _ c.act.new.store c.read_command-reading.ensures.0 c.actor-own.ensures.0 c.site.ensures
-    (rw c.head_of.ensures at c.in_ok-change.ensures) in
+    (acts_read _ _ _ _ _ _ _ (rw c.head_of.ensures at c.in_ok-change.ensures)) in
     rw c.put.ensures (record { played = r.0; stored = r.1 })

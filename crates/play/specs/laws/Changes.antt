@@ -5,16 +5,19 @@ use Rattle.choice.specs.Choice.{pick}
 use Rattle.site.specs.declared.Site.{Site}
 use Rattle.command.specs.declared.Command.{Command}
 use Rattle.command.specs.declared.Command.TheVariants as Command·
-use Rattle.command.specs.Readings.{Reading}
+use Rattle.command.specs.declared.Parsed.{Parsed}
+use Rattle.command.specs.Commands.{found}
 use Rattle.world.specs.declared.World.{World}
 use Rattle.world.specs.Sizes.{max_news}
 use Rattle.world.specs.Worlds.{sizes_held, site_of, with_site, with_rows, with_news}
 use Rattle.refusals.specs.declared.Reason.{Reason}
 use Rattle.refusals.specs.declared.Refusal.{Refusal}
+use Rattle.refusals.specs.declared.Numbered.{Numbered}
 use Rattle.refusals.specs.Refusals.{number_of}
 use Rattle.play.specs.declared.Head.{Head}
 use Rattle.play.specs.declared.Change.{Change}
-use Rattle.play.specs.Calls.{Call, Told, played_of}
+use Rattle.play.specs.Calls.{Call, Told, played_of, refuse}
+use Rattle.play.specs.Commands.{perform}
 
 -- a world without its sites
 unfoldable pub head_of : World → Head
@@ -92,6 +95,27 @@ named_site (Command·.Crash t) = t.site
 named_site (Command·.Recover t) = t.site
 
 -- the site that what was read acts on; 0 where it names none below n
-unfoldable pub actor : Reading → ℕ → ℕ
+unfoldable pub actor : {E : Type 0} → Result Parsed E → ℕ → ℕ
 actor (Err r) n = 0
 actor (Ok p) n = pick (ltb (named_site p.command) n) (named_site p.command) 0
+
+-- an answer in words of the caller's own: the same change, or an error that was made of the same refusal, as `made` says
+abbrev pub Handed : {E : Type 0} → (Refusal → E → Type 0) → Result Change Refusal → Result Change E → Type 0
+Handed {E = E} made (Ok c) given = given ≡ Ok c
+Handed {E = E} made (Err r) given = (e : E) × (given ≡ Err e) × made r e
+
+-- what was read is acted out: an error is handed on as it is, and nothing is changed; a command gives an answer in words of the caller's own
+unfoldable pub ActsRead : {E : Type 0} → (Refusal → E → Type 0) → Result Parsed E → ℕ → Head → Site → Result Change E → List ℕ → List ℕ → Type 0
+ActsRead made (Err e) at h s given before after = (given ≡ Err e) × (after ≡ before)
+ActsRead made (Ok p) at h s given before after =
+    (r : Result Change Refusal) × Handed made r given
+    × Acts h (actor (found p.command p.next) h.sizes.n) s (change_of h s r) after (λ w. perform p.command w before at p.next)
+
+-- the same of errors that tell a number, which may be any: the change that an answer stands for, and the call that is made of what was read
+abbrev pub change_numbered : Head → Site → Result Change Numbered → SiteChange
+change_numbered h s (Ok c) = record { number = 0; site = c.site; rows = c.rows; news = c.news; place = c.next }
+change_numbered h s (Err e) = refused_change e.number h e.place s
+
+abbrev pub perform_numbered : Result Parsed Numbered → World → List ℕ → ℕ → Call
+perform_numbered (Err e) w store at = refuse e.number w store e.place
+perform_numbered (Ok p) w store at = perform p.command w store at p.next

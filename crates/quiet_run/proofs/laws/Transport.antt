@@ -9,7 +9,7 @@ use Rattle.world.specs.Sizes.{store_bytes}
 use Rattle.world.specs.Valid.{valid_world}
 use Rattle.play.specs.Commands.{perform_read, play_command, one_command}
 use Rattle.play.specs.Run.{Ask, Ran, run, call_of, after_call}
-use Rattle.play.specs.laws.CallLaws.{one-is_play}
+use Rattle.play.proofs.laws.CallLaws.{one-is_play}
 use Rattle.safety.specs.Claims.{Shaped}
 use Rattle.list.specs.Play.{stopped, after_ask, ask_at, play_from}
 use Rattle.list.specs.laws.PlayLaws.{Further, further-one, ends, goes_on}

@@ -22,7 +22,7 @@ use Rattle.world.specs.laws.WorldLaws.{valid_parts}
 use Rattle.play.specs.Calls.{enter}
 use Rattle.play.specs.Commands.{timeout_call, deliver_row, deliver_call, perform, perform_read, play_command}
 use Rattle.play.specs.Run.{call_of}
-use Rattle.play.specs.laws.CallLaws.{one-is_play}
+use Rattle.play.proofs.laws.CallLaws.{one-is_play}
 use Rattle.safety.proofs.laws.News.{quiet-timeout, entry-after}
 use Rattle.spelling.specs.Spelling.{command_bytes}
 use Rattle.spelling.specs.Ranges.{InRange}

@@ -1,6 +1,6 @@
 -- Laws of weights.
 use Rattle.std.specs.Prelude.{ℕ, zero, suc, ◌+◌, ◌-◌, ◌*◌, ◌≤◌, ◌<◌, true, List, ◌≡◌, refl, ltb, leb, eqb, replicate, length, All, Contains}
-use Rattle.std.proofs.Common.{ap, sym, ◌∙◌, ◌++◌, min, drop, suc-mul, arith, lt-ltb, le-ltb, le-leb, ltb-true, ltb-false, leb-true, eqb-true, eq-eqb}
+use Rattle.std.proofs.Common.{ap, sym, ◌∙◌, ◌++◌, drop, suc-mul, arith, lt-ltb, le-ltb, le-leb, ltb-true, ltb-false, leb-true, eqb-true, eq-eqb}
 use Rattle.std.proofs.lemmas.List.{length-replicate, get_or-replicate, get_or_default}
 use Rattle.choice.specs.Choice.{pick, both}
 use Rattle.choice.specs.Places.{sum_to, stored_to}
@@ -49,11 +49,9 @@ pub weights-most : (f : ℕ → ℕ) (n : ℕ) → 16 ≤ n → weights_by f 16 
 unfolding weights_by
 weights-most f n many = sym (stored_past f n (replicate 16 0) (rw (length-replicate {A = ℕ} 16 0) many) ∙ ap (λ k. stored_to f k (replicate 16 0)) (length-replicate {A = ℕ} 16 0))
 
-pub few_weights : (f : ℕ → ℕ) (n : ℕ) → weights_by f (min n 16) ≡ weights_by f n
-few_weights f n = by_test (ltb n 16) (λ e. ap (weights_by f) (omega (arith, ltb-true n 16 e))) (λ e. few (ltb-false n 16 e))
-  where
-    few : 16 ≤ n → weights_by f (min n 16) ≡ weights_by f n
-    few many = let e : min n 16 ≡ 16 = omega arith in rw e (weights-most f n many)
+pub few_weights : (f : ℕ → ℕ) (n few : ℕ) → (n < 16 → few ≡ n) → (16 ≤ n → few ≡ 16) → weights_by f few ≡ weights_by f n
+few_weights f n few below past =
+    by_test (ltb n 16) (λ e. ap (weights_by f) (below (ltb-true n 16 e))) (λ e. rw (past (ltb-false n 16 e)) (weights-most f n (ltb-false n 16 e)))
 
 -- ones, and zeros after them
 pub ones_first : (k : ℕ) → k ≤ 16 → replicate k 1 ++ drop k (replicate 16 0) ≡ weights_by (λ _. 1) k

@@ -1,8 +1,11 @@
 -- What sizes that none of 3, 21, 4 and 5 refuses are known to be.
 use Prim.Native.Nat.{ℕ, ◌+◌, ◌-◌, ◌^◌, ◌≤◌, ◌<◌}
 use Rattle.std.proofs.Math.Bool.{Bool, true}
-use Rattle.std.specs.Prelude.{false, List, ◌≡◌, refl, ltb, leb}
-use Rattle.std.proofs.Common.{arith}
+use Rattle.std.specs.Prelude.{false, List, Result, is_err, ◌≡◌, refl, ltb, leb}
+use Rattle.std.proofs.Common.{sym, ◌∙◌, arith}
+use Rattle.refusals.specs.declared.Reason.{Reason}
+use Rattle.refusals.specs.Refusals.{answer_number}
+use Rattle.refusals.specs.laws.RefusalLaws.{answer-ok}
 use borrow.Author.Tests.{ltb-true, leb-true, lt-ltb, le-leb}
 use Rattle.choice.specs.Choice.{pick, both}
 use Rattle.choice.specs.laws.ChoiceLaws.{both-on, both_first, both-second}
@@ -82,3 +85,9 @@ module _ (n : ℕ) (weights : List ℕ) (c : CommitQuorum) (a : AbortQuorum) (wi
   -- together the quorums are above what all sites weigh
   pub quorums-above : Sized n weights c a willing → sum_to (weight_of weights) n < c.0 + a.0
   quorums-above z = omega (arith, total-below n weights z.high (weighed n weights z.weighed))
+
+-- of sizes whose check is no Err, n is at most 16
+pub few_sites :
+    {T : Type 0} (n : ℕ) (weights : List ℕ) (c : CommitQuorum) (a : AbortQuorum) (willing : ℕ) (answer : Result T Reason) →
+    answer_number answer ≡ sizes_number n weights c a willing → is_err answer ≡ false → n ≤ 16
+few_sites n weights c a willing answer e ok = (sized n weights c a willing (sym e ∙ answer-ok answer ok)).high

@@ -1,6 +1,7 @@
 use native.Mathlib.Omega.{arith}
 use mathlib.Core.Path.{refl}
 use Rattle.refusals.specs.laws.RefusalLaws.{number-some}
+use Rattle.play.proofs.laws.CallLaws.{acts_read}
 use Rattle.layout.proofs.laws.LayoutLaws.{inside-length}
 use Rattle.calls.specs.Calls.{leave}
 use Rattle.calls.specs.laws.CommandLaws.{playable_ready, change_refused, change_accepted}
@@ -36,7 +37,7 @@ returns-in-Ok c =
     change_accepted a.world.now a.store.now a.list.now a.at a.res.now c.read_command-reading.result head.result c.actor-own.result
     c.site_at-site.result _ c.act.new.store c.requires c.read_command-reading.ensures.0 head.ensures c.actor-own.ensures.0
     (omega (arith, c.actor-own.ensures.1, (playable_ready _ _ _ _ c.requires head.ensures).high))
-    (rw c.site_place.ensures.0 at c.site_at-site.ensures) c.in-Ok.ensures refl in
+    (rw c.site_place.ensures.0 at c.site_at-site.ensures) (acts_read _ _ _ _ _ _ _ c.in-Ok.ensures) refl in
     record { value = rw e; store_after = rw e; world_after = rw e c.put_change.ensures; res_after = rw e c.put_number.ensures }
 
 pub returns-in-Err : goal.returns-in-Err
@@ -48,5 +49,5 @@ returns-in-Err c =
     change_refused a.world.now a.store.now a.list.now a.at a.res.now c.read_command-reading.result head.result c.actor-own.result
     c.site_at-site.result _ c.act.new.store c.requires c.read_command-reading.ensures.0 head.ensures c.actor-own.ensures.0
     (omega (arith, c.actor-own.ensures.1, (playable_ready _ _ _ _ c.requires head.ensures).high))
-    (rw c.site_place.ensures.0 at c.site_at-site.ensures) c.in-Err.ensures (number-some c.in-Err.refusal.reason) in
+    (rw c.site_place.ensures.0 at c.site_at-site.ensures) (acts_read _ _ _ _ _ _ _ c.in-Err.ensures) (number-some c.in-Err.refusal.reason) in
     record { value = rw e c.from.ensures; store_after = rw e; world_after = rw e; res_after = rw e }

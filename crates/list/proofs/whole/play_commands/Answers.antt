@@ -4,6 +4,7 @@ use Rattle.refusals.specs.laws.RefusalLaws.{number-some}
 use Rattle.header.specs.laws.HeaderLaws.{headed}
 use Rattle.world.specs.laws.PartLaws.{site_of-within}
 use Rattle.play.specs.laws.Changes.{head_of, changed}
+use Rattle.play.proofs.laws.CallLaws.{acts_read}
 use Rattle.list.specs.Play.{play_list}
 use Rattle.list.specs.laws.Loop.{loop_begins, loop_ends}
 use Rattle.list.specs.laws.LoopLaws.{may_act, changes_on, changes_past, changes_out}
@@ -45,7 +46,7 @@ loop-at-smaller c =
     let own = c.actor-own in
     changes_past w _ c.act.new.store i c.loop-at-test.true c.read_command-reading.ensures.0 own.ensures.0
     (site_of-within w own.result _ (omega (arith, own.ensures.1, (may_act w i).high, i.shaped.sites)))
-    (rw c.head_of.ensures at c.in-Ok.ensures) refl in
+    (acts_read _ _ _ _ _ _ _ (rw c.head_of.ensures at c.in-Ok.ensures)) refl in
     omega arith
 
 pub loop-at-preserved : goal.loop-at-preserved
@@ -57,7 +58,7 @@ loop-at-preserved c = (
       rw c.put.ensures
       (changes_on w _ c.act.new.store i c.loop-at-test.true c.read_command-reading.ensures.0 own.ensures.0
       (site_of-within w own.result _ (omega (arith, own.ensures.1, (may_act w i).high, i.shaped.sites)))
-      (rw c.head_of.ensures at c.in-Ok.ensures) refl),
+      (acts_read _ _ _ _ _ _ _ (rw c.head_of.ensures at c.in-Ok.ensures)) refl),
   omega arith,
 )
 
@@ -70,7 +71,7 @@ returns-in-Err c =
     let own = c.actor-own in
     changes_out w _ c.act.new.store i c.loop-at-test.true c.read_command-reading.ensures.0 own.ensures.0
     (site_of-within w own.result _ (omega (arith, own.ensures.1, (may_act w i).high, i.shaped.sites)))
-    (rw c.head_of.ensures at c.in-Err.ensures) (number-some c.in-Err.refusal.reason) in
+    (acts_read _ _ _ _ _ _ _ (rw c.head_of.ensures at c.in-Err.ensures)) (number-some c.in-Err.refusal.reason) in
     record { played = o.played; stored = o.kept }
 
 pub returns : goal.returns

@@ -7,7 +7,7 @@ use Rattle.row.specs.Messages.{row_of}
 use Rattle.row.specs.laws.MessageLaws.{kind-some}
 use Rattle.rules.specs.declared.Step.{Step}
 use Rattle.rules.specs.Steps.{stepped}
-use Rattle.play.specs.laws.CallLaws.{acts_silent, acts_row, acts_full, acts_past-silent, acts_past-row}
+use Rattle.play.proofs.laws.CallLaws.{acts_silent, acts_row, acts_full, acts_past-silent, acts_past-row}
 use Rattle.play.proofs.entry.enter.Goals as goal
 
 silent : (step : Step) → step.sent ≡ None → (stepped step).row.kind ≡ 0

@@ -12,19 +12,38 @@ use Rattle.site.specs.Fields.{blank_site}
 use Rattle.command.specs.declared.Command.{Command}
 use Rattle.command.specs.declared.Command.TheVariants as Command·
 use Rattle.command.specs.declared.Parsed.{Parsed}
-use Rattle.refusals.specs.Refusals.{number_of}
+use Rattle.refusals.specs.declared.Reason.TheVariants as Reason·
+use Rattle.refusals.specs.declared.Numbered.{Numbered}
+use Rattle.refusals.specs.Refusals.{number_of, by_number}
 use Rattle.refusals.specs.declared.Refusal.{Refusal}
 use Rattle.command.specs.Readings.{Reading}
-use Rattle.std.specs.Prelude.{Ok, Err}
-use Rattle.command.specs.Commands.{read_command}
+use Rattle.std.specs.Prelude.{Result, Ok, Err}
+use Rattle.command.specs.Commands.{read_command, found}
 use Rattle.world.specs.declared.World.{World}
 use Rattle.world.specs.Sizes.{max_news, store_bytes}
 use Rattle.world.specs.Valid.{valid_world}
 use Rattle.world.specs.Worlds.{site_of, with_site, with_rows, with_news}
 use Rattle.world.specs.laws.WorldLaws.{valid_parts, valid-sized}
 use Rattle.play.specs.declared.Head.{Head}
+use Rattle.play.specs.declared.Change.{Change}
 use Rattle.play.specs.Calls.{refuse, put_back, enter_silent, enter_row, within_news, enter, played_of}
-use Rattle.play.specs.laws.Changes.{Ready, Acts, head_of, world_of, changed, SiteChange, refused_change, entered_change, named_site, actor}
+use Rattle.play.specs.laws.Changes.{
+  Ready,
+  Acts,
+  ActsRead,
+  Handed,
+  head_of,
+  world_of,
+  changed,
+  SiteChange,
+  refused_change,
+  entered_change,
+  change_of,
+  change_numbered,
+  perform_numbered,
+  named_site,
+  actor,
+}
 use Rattle.play.specs.Commands.{timeout_call, crash_call, recover_call, deliver_call, perform, perform_read, play_command, one_command}
 
 -- a world that passes 17 and a store with room need no further check
@@ -139,6 +158,58 @@ module _ (reading : Reading) (h : Head) (s : Site) (c : SiteChange) (store : Lis
       Acts h (actor reading h.sizes.n) s c store (λ w. perform_read reading w store at)
   unfolding perform_read actor
   acts_unnamed p e some past f = rw (e, f, le-ltb _ _ past) (unnamed_acts p.command h s store at p.next some past)
+
+-- what was read, with an answer in words of the caller's own: each way out of `act`
+module _ {E : Type 0} (made : Refusal → E → Type 0) (reading : Result Parsed E) (at : ℕ) (h : Head) (s : Site) (given : Result Change E) (before : List ℕ) where
+  -- an error that was read
+  pub read_refused : (e : E) → reading ≡ Err e → given ≡ Err e → ActsRead made reading at h s given before before
+  unfolding ActsRead
+  read_refused e f g = rw f (g, refl)
+
+  -- a command that names a site below n
+  pub read_named :
+      (p : Parsed) (after : List ℕ) (r : Result Change Refusal) → reading ≡ Ok p → named_site p.command < h.sizes.n → Handed made r given →
+      Acts h (named_site p.command) s (change_of h s r) after (λ w. perform p.command w before at p.next) →
+      ActsRead made reading at h s given before after
+  unfolding ActsRead actor found
+  read_named p after r e below handed acts = rw (e, lt-ltb _ _ below) (r, handed, acts)
+
+  -- one that names none: 8
+  pub read_unnamed :
+      (p : Parsed) (e : E) → reading ≡ Ok p → 0 < h.sizes.n → h.sizes.n ≤ named_site p.command → given ≡ Err e →
+      made (record { reason = Reason·.NoSuchSite; place = at }) e → ActsRead made reading at h s given before before
+  unfolding ActsRead actor found
+  read_unnamed p e f some past g m =
+      rw (f, le-ltb _ _ past)
+      (Err (record { reason = Reason·.NoSuchSite; place = at }), (e, g, m), unnamed_acts p.command h s before at p.next some past)
+
+-- where the caller's words are the refusals themselves
+handed-same : (r given : Result Change Refusal) → Handed (λ x y. y ≡ x) r given → given ≡ r
+handed-same (Ok c) given e = e
+handed-same (Err x) given (y, e, f) = rw (e, f) refl
+
+pub acts_read :
+    (reading : Reading) (at : ℕ) (h : Head) (s : Site) (given : Result Change Refusal) (before after : List ℕ) →
+    ActsRead (λ x y. y ≡ x) reading at h s given before after →
+    Acts h (actor reading h.sizes.n) s (change_of h s given) after (λ w. perform_read reading w before at)
+unfolding ActsRead perform_read actor found
+acts_read (Err e) at h s given before after a = rw (a.0, a.1) (refused_acts (number_of e.reason) h 0 s before e.place)
+acts_read (Ok p) at h s given before after a = rw (handed-same a.0 given a.1) a.2
+
+-- where they tell a number, which may be any
+handed-numbered :
+    (h : Head) (s : Site) (r : Result Change Refusal) (given : Result Change Numbered) → Handed (λ x y. y ≡ by_number x) r given →
+    change_numbered h s given ≡ change_of h s r
+handed-numbered h s (Ok c) given e = rw e refl
+handed-numbered h s (Err x) given (y, e, f) = rw (e, f) refl
+
+pub acts_numbered :
+    (reading : Result Parsed Numbered) (at : ℕ) (h : Head) (s : Site) (given : Result Change Numbered) (before after : List ℕ) →
+    ActsRead (λ x y. y ≡ by_number x) reading at h s given before after →
+    Acts h (actor reading h.sizes.n) s (change_numbered h s given) after (λ w. perform_numbered reading w before at)
+unfolding ActsRead actor found
+acts_numbered (Err e) at h s given before after a = rw (a.0, a.1) (refused_acts e.number h 0 s before e.place)
+acts_numbered (Ok p) at h s given before after a = rw (handed-numbered h s a.0 given a.1) a.2
 
 -- a change on the site that a list's command acts on
 pub acts_played :
