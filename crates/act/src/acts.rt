@@ -47,6 +47,8 @@ fn turn(command: Command, head: Head, store: &[u8], site: Site) -> Result<Step, 
     }
 }
 
+// In line with `act`, so that a command alone is not slower.
+#[inline(always)]
 fn perform(
     command: Command,
     head: Head,
