@@ -3,7 +3,7 @@ ghost use Rattle.std.specs.Prelude.{◌≡◌, ℕ, ◌≤◌};
 ghost use Rattle.weights.specs.Weights.{weights_by, even_weights};
 
 // How many of the sixteen weights are those of sites, where n may be any number.
-#[tactic(auto, using(crate::specs::laws::WeightLaws::few_weights))]
+#[tactic(auto, using(crate::specs::laws::WeightLaws::capped_weights))]
 pub fn few_sites(n: usize) -> usize
     ensures { (result ≤ 16) × ((f : ℕ → ℕ) → weights_by f result ≡ weights_by f n) }
 {

@@ -1,7 +1,9 @@
 -- No reason has number 0, and each has one of 1 to 22.
-use Rattle.std.specs.Prelude.{ℕ, ◌≡◌, ◌≤◌, Bool, true, false, Result, Ok, Err, is_ok, is_err, eqb}
+use denote.Enum.Declared.{tag_of}
+use Rattle.std.specs.Prelude.{ℕ, ◌+◌, ◌≡◌, ◌≤◌, Bool, true, false, Result, Ok, Err, is_ok, is_err, eqb}
 use Rattle.std.proofs.Common.{refl, ◌∙◌, rules}
 use Rattle.std.proofs.lemmas.Bool.{eqb-false}
+use Rattle.refusals.specs.contracts.Reason.{the_type}
 use Rattle.refusals.specs.declared.Reason.{Reason}
 use Rattle.refusals.specs.declared.Reason.TheVariants as Reason·
 use Rattle.refusals.specs.Refusals.{number_of, answer_number}
@@ -56,6 +58,31 @@ number-range Reason·.BadLine = (search rules, search rules)
 number-range Reason·.OutputTooShort = (search rules, search rules)
 number-range Reason·.InvalidWeights = (search rules, search rules)
 number-range Reason·.UnevenWeights = (search rules, search rules)
+
+-- the number is the place in the enum, counted from 1
+pub tagged : (r : Reason) → tag_of the_type r + 1 ≡ number_of r
+tagged Reason·.ListTooLong = refl
+tagged Reason·.ListTooShort = refl
+tagged Reason·.SiteCount = refl
+tagged Reason·.QuorumSizes = refl
+tagged Reason·.WillingSites = refl
+tagged Reason·.NoCommand = refl
+tagged Reason·.OperandsCut = refl
+tagged Reason·.NoSuchSite = refl
+tagged Reason·.NoSuchRow = refl
+tagged Reason·.UnknownRow = refl
+tagged Reason·.NotAddressed = refl
+tagged Reason·.SiteDown = refl
+tagged Reason·.SiteUp = refl
+tagged Reason·.NotActive = refl
+tagged Reason·.StoreFull = refl
+tagged Reason·.StoreTooShort = refl
+tagged Reason·.InvalidWorld = refl
+tagged Reason·.ReportTooShort = refl
+tagged Reason·.BadLine = refl
+tagged Reason·.OutputTooShort = refl
+tagged Reason·.InvalidWeights = refl
+tagged Reason·.UnevenWeights = refl
 
 -- an answer's number is 0 where nothing stops the call, and only there
 pub answer-test : {T : Type 0} (r : Result T Reason) → eqb (answer_number r) 0 ≡ is_ok r

@@ -1,6 +1,6 @@
 -- Laws of weights.
 use Rattle.std.specs.Prelude.{ℕ, zero, suc, ◌+◌, ◌-◌, ◌*◌, ◌≤◌, ◌<◌, true, List, ◌≡◌, refl, ltb, leb, eqb, replicate, length, All, Contains}
-use Rattle.std.proofs.Common.{ap, sym, ◌∙◌, ◌++◌, drop, suc-mul, arith, lt-ltb, le-ltb, le-leb, ltb-true, ltb-false, leb-true, eqb-true, eq-eqb}
+use Rattle.std.proofs.Common.{ap, sym, ◌∙◌, ◌++◌, min, drop, suc-mul, arith, lt-ltb, le-ltb, le-leb, ltb-true, ltb-false, leb-true, eqb-true, eq-eqb}
 use Rattle.std.proofs.lemmas.List.{length-replicate, get_or-replicate, get_or_default}
 use Rattle.choice.specs.Choice.{pick, both}
 use Rattle.choice.specs.Places.{sum_to, stored_to}
@@ -49,9 +49,13 @@ pub weights-most : (f : ℕ → ℕ) (n : ℕ) → 16 ≤ n → weights_by f 16 
 unfolding weights_by
 weights-most f n many = sym (stored_past f n (replicate 16 0) (rw (length-replicate {A = ℕ} 16 0) many) ∙ ap (λ k. stored_to f k (replicate 16 0)) (length-replicate {A = ℕ} 16 0))
 
-pub few_weights : (f : ℕ → ℕ) (n few : ℕ) → (n < 16 → few ≡ n) → (16 ≤ n → few ≡ 16) → weights_by f few ≡ weights_by f n
-few_weights f n few below past =
+-- however the least of n and sixteen is told
+pub capped_weights : (f : ℕ → ℕ) (n few : ℕ) → (n < 16 → few ≡ n) → (16 ≤ n → few ≡ 16) → weights_by f few ≡ weights_by f n
+capped_weights f n few below past =
     by_test (ltb n 16) (λ e. ap (weights_by f) (below (ltb-true n 16 e))) (λ e. rw (past (ltb-false n 16 e)) (weights-most f n (ltb-false n 16 e)))
+
+pub few_weights : (f : ℕ → ℕ) (n : ℕ) → weights_by f (min n 16) ≡ weights_by f n
+few_weights f n = capped_weights f n (min n 16) (λ below. omega (arith, below)) (λ past. omega (arith, past))
 
 -- ones, and zeros after them
 pub ones_first : (k : ℕ) → k ≤ 16 → replicate k 1 ++ drop k (replicate 16 0) ≡ weights_by (λ _. 1) k
